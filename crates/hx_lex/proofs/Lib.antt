@@ -1,0 +1,5 @@
+pub mod Closing
+pub mod Runs
+pub mod Pieces
+pub mod Whole
+pub mod Loop
