@@ -1,8 +1,10 @@
 //! The tokens of a source.
 #![tactic(auto)]
 
+mod byte;
 mod error;
 mod piece;
+mod spelling;
 mod token;
 
 pub use error::LexError;
