@@ -2,9 +2,7 @@
 use Rattle.std.proofs.Common.{◌≡◌, ℕ, zero, suc, ◌+◌, ◌<◌, ◌≤◌, Bool, true, false, cond, List, [], ◌∷◌, length, drop, get_or, Option, Some, None, refl, sym, ap, subst, ◌∙◌, arith}
 use Rattle.std.specs.Prelude.{◌&&◌, ◌==◌, option_map}
 use Rattle.hx_tree.specs.Lexis.{close_len}
-
-abbrev pub is_close : ℕ → ℕ → Bool
-is_close a b = a == 42 && b == 47
+use Rattle.hx_lex.specs.Reading.{is_close}
 
 -- one byte more
 abbrev past : Option ℕ → Option ℕ

@@ -1,6 +1,6 @@
 -- How the lexer reads, as a function on lists: piece after piece, each told by its first two bytes.
 -- `proofs/` shows that it finds the tokens of the definition, and fails where there are none.
-use Rattle.std.specs.Prelude.{◌≡◌, ℕ, zero, suc, ◌+◌, nat_le, List, [], ◌∷◌, length, take, drop, take_while, Option, Some, None, Result, Ok, Err, if◌then◌else◌}
+use Rattle.std.specs.Prelude.{◌≡◌, ℕ, zero, suc, ◌+◌, Bool, ◌&&◌, ◌==◌, nat_le, List, [], ◌∷◌, length, take, drop, take_while, Option, Some, None, Result, Ok, Err, if◌then◌else◌}
 use Rattle.hx_tree.specs.declared.limits.TheConstants.{NAME_LIMIT}
 use Rattle.hx_tree.specs.declared.token.Pos.{Pos}
 use Rattle.hx_tree.specs.declared.token.Mark.{Mark}
@@ -16,6 +16,9 @@ blank n = Ok record { kind = None; len = n }
 
 abbrev pub token : Kind → ℕ → Result Piece LexError
 token k n = Ok record { kind = Some k; len = n }
+
+abbrev pub is_close : ℕ → ℕ → Bool
+is_close first second = first == 42 && second == 47
 
 -- ---- by what was found
 
