@@ -3,3 +3,4 @@ pub mod Runs
 pub mod Pieces
 pub mod Whole
 pub mod Loop
+pub mod Cut

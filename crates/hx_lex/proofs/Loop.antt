@@ -6,7 +6,9 @@ use Rattle.hx_tree.specs.declared.token.Kind.{Kind}
 use Rattle.hx_tree.specs.Lexis.{Token, with_token, first_place, place_after}
 use Rattle.hx_lex.specs.declared.piece.Piece.{Piece}
 use Rattle.hx_lex.specs.declared.error.LexError.{LexError}
-use Rattle.hx_lex.specs.Reading.{piece_at, ◌>>=◌, lex_at}
+use Rattle.std.specs.Prelude.{IsErrAnd}
+use Rattle.hx_lex.specs.declared.error.LexError.TheVariants as error
+use Rattle.hx_lex.specs.Reading.{piece_at, ◌>>=◌, lex_at, Gives}
 use Rattle.hx_lex.proofs.Pieces.{piece_len}
 
 -- these tokens are read, and the rest from this index and place gives the whole
@@ -75,3 +77,27 @@ lexed_ends bytes tokens pos at so_far le = sym so_far.reads ∙ ends so_far.fuel
     ends : (fuel : ℕ) (bs : List ℕ) → length bs ≤ 0 → (lex_at fuel pos bs >>= λ more. Ok (tokens ++ more)) ≡ Ok tokens
     ends fuel [] le = ap (λ (x : List Token). Ok x) (append-nil tokens)
     ends fuel (b ∷ bs) le = absurd (omega arith)
+
+take_whole : (n : ℕ) (xs : List ℕ) → length xs ≤ n → take n xs ≡ xs
+take_whole zero [] le = refl
+take_whole (suc n) [] le = refl
+take_whole zero (x ∷ xs) le = absurd (omega arith)
+take_whole (suc n) (x ∷ xs) le = ap (λ (ys : List ℕ). x ∷ ys) (take_whole n xs (omega arith))
+
+-- the bytes from an index to the end
+pub tail_is : (bytes : List ℕ) (at : ℕ) → take (length bytes - at) (drop at bytes) ≡ drop at bytes
+tail_is bytes at = take_whole (length bytes - at) (drop at bytes) (omega (arith, length-drop at bytes))
+
+-- ---- an answer that is a refusal
+
+pub gives_error : {X : Type 0} (view : X → List Token) (read : Result (List Token) LexError) (e : LexError) → read ≡ Err e → Gives view (Err e) read
+gives_error view read (error.ForeignByte pos) is = is
+gives_error view read (error.BadConstant pos) is = is
+gives_error view read (error.OpenComment pos) is = is
+gives_error view read (error.LongName pos) is = is
+gives_error view read error.TooLong is = is
+gives_error view read error.Memory is = tt
+
+pub passes_on : {X : Type 0} (view : X → List Token) (read : Result (List Token) LexError) (r : Result X LexError) (e : LexError) → IsErrAnd r (λ f. f ≡ e) → read ≡ Err e → Gives view r read
+passes_on view read (Ok x) e h is = absurd h
+passes_on view read (Err f) e h is = gives_error view read f (rw h is)

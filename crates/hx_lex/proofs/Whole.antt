@@ -6,6 +6,7 @@ use Rattle.hx_tree.specs.Lexis.{class_at, Falls, Token, with_token, tokens_of, f
 use Rattle.hx_tree.specs.Lexis as lexis
 use Rattle.hx_lex.specs.declared.piece.Piece.{Piece}
 use Rattle.hx_lex.specs.declared.error.LexError.{LexError}
+use Rattle.hx_lex.specs.declared.error.LexError.TheVariants.{TooLong}
 use Rattle.hx_lex.specs.Reading.{piece_at, ◌>>=◌, lex_at}
 use Rattle.hx_lex.specs.Answer.{NoOthers, HasNoTokens, Begins, place_behind, IsFault, IsFirstFault, pos_of}
 use Rattle.hx_lex.proofs.Pieces.{piece_is, piece_len, piece_again, piece_fails}
@@ -127,3 +128,6 @@ is_none bytes e h tokens (pieces, falls, are) =
 
 pub is_first : (bytes : List ℕ) (e : LexError) → lex_at (length bytes) first_place bytes ≡ Err e → IsFirstFault bytes e
 is_first bytes e h = all_fails (length bytes) first_place bytes e (omega arith) h
+
+pub never_too_long : (bytes : List ℕ) → lex_at (length bytes) first_place bytes ≡ Err TooLong → ⊥
+never_too_long bytes h = let fault = is_first bytes TooLong h in absurd (let place = fault.5 in cc)

@@ -30,6 +30,38 @@ pub enum LexError {
     Memory,
 }
 
+impl LexError {
+    ghost use Rattle.hx_lex.specs.Answer.{number_of, pos_of};
+
+    /// The refusal's number, from 1 to 6.
+    pub fn number(self) -> u32
+        ensures { result ≡ number_of self }
+    {
+        match self {
+            LexError::ForeignByte(_) => 1,
+            LexError::BadConstant(_) => 2,
+            LexError::OpenComment(_) => 3,
+            LexError::LongName(_) => 4,
+            LexError::TooLong => 5,
+            LexError::Memory => 6,
+        }
+    }
+
+    /// The place in the source, for the first four.
+    pub fn pos(self) -> Option<Pos>
+        ensures { result ≡ pos_of self }
+    {
+        match self {
+            LexError::ForeignByte(pos) => Some(pos),
+            LexError::BadConstant(pos) => Some(pos),
+            LexError::OpenComment(pos) => Some(pos),
+            LexError::LongName(pos) => Some(pos),
+            LexError::TooLong => None,
+            LexError::Memory => None,
+        }
+    }
+}
+
 impl From<AllocError> for LexError {
     ghost from_gives = { λ _ e. e ≡ Memory };
 

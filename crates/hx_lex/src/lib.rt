@@ -3,9 +3,11 @@
 
 mod byte;
 mod error;
+mod lexer;
 mod piece;
 mod spelling;
 mod token;
 
 pub use error::LexError;
+pub use lexer::tokens;
 pub use token::{Span, Token};

@@ -1,6 +1,6 @@
 // What stands at the front of some bytes: white space, a comment, or a token.
 
-ghost use Rattle.std.specs.Prelude.{◌≡◌, ◌<◌, ◌≤◌, length, IfSome};
+ghost use Rattle.std.specs.Prelude.{◌≡◌, ◌<◌, ◌≤◌, length, IfSome, IfOk};
 ghost use Rattle.hx_tree.specs.Lexis as lexis;
 ghost use Rattle.hx_lex.specs.Reading as reading;
 
@@ -35,8 +35,18 @@ impl Piece {
 }
 
 /// What stands at the front of the bytes, which begin at this place.
-#[tactic(auto, unfolding(crate::specs::Reading::piece_at, hx_tree::specs::Lexis::class_of))]
 pub fn piece_at(bytes: &[u8], pos: Pos) -> Result<Piece, LexError>
+    requires { 0 < length bytes.now }
+    ensures reading { result ≡ reading.piece_at pos bytes.now }
+    ensures some { IfOk result (λ piece. 0 < piece.len) }
+    ensures within { IfOk result (λ piece. piece.len ≤ length bytes.now) }
+{
+    classified(bytes, pos)
+}
+
+/// The same, by the first two bytes.
+#[tactic(auto, unfolding(crate::specs::Reading::piece_at, hx_tree::specs::Lexis::class_of))]
+fn classified(bytes: &[u8], pos: Pos) -> Result<Piece, LexError>
     requires { 0 < length bytes.now }
     ensures { result ≡ reading.piece_at pos bytes.now }
 {
