@@ -8,7 +8,7 @@ use Rattle.hx_lex.specs.declared.piece.Piece.{Piece}
 use Rattle.hx_lex.specs.declared.error.LexError.{LexError}
 use Rattle.hx_lex.specs.declared.error.LexError.TheVariants.{TooLong}
 use Rattle.hx_lex.specs.Reading.{piece_at, ◌>>=◌, lex_at}
-use Rattle.hx_lex.specs.Answer.{NoOthers, HasNoTokens, Begins, place_behind, IsFault, IsFirstFault, pos_of}
+use Rattle.hx_lex.specs.Answer.{NoOthers, HasNoTokens, Begins, place_after_pieces, IsFault, IsFirstFault, pos_of}
 use Rattle.hx_lex.proofs.Pieces.{piece_is, piece_len, piece_again, piece_fails}
 
 -- ---- one step after the other
@@ -80,7 +80,7 @@ all_again (p ∷ ps) (suc fuel) pos bytes (rest, e, some, is, falls) le =
 abbrev FailsFrom : Pos → List ℕ → LexError → Type 0
 FailsFrom pos bytes e =
     (pieces : List lexis.Piece) × (rest : List ℕ) × Begins pieces bytes rest × (0 < length rest)
-    × IsFault e (class_at rest) rest × (pos_of e ≡ Some (place_behind pos pieces))
+    × IsFault e (class_at rest) rest × (pos_of e ≡ Some (place_after_pieces pos pieces))
 
 fails_later : (pos : Pos) (bytes : List ℕ) (p : Piece) (e : LexError) → 0 < length bytes → piece_at pos bytes ≡ Ok p → FailsFrom (place_after pos (take p.len bytes)) (drop p.len bytes) e → FailsFrom pos bytes e
 fails_later pos bytes p e some here (pieces, rest, begins, left, fault, place) =

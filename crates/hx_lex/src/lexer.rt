@@ -14,6 +14,9 @@ use hx_tree::limits::SOURCE_LIMIT;
 use hx_tree::token::{Kind, Pos};
 use std::alloc::{AllocError, Global};
 
+#[cfg(test)]
+mod tests;
+
 /// The tokens of a source: white space and comments stand between them, and each is the longest that can stand
 /// where it begins (ISO/IEC 9899:2011, 6.4, paragraph 4). Their spans rise, and a token's text is the source's slice
 /// at its span.
@@ -29,6 +32,7 @@ pub fn tokens<'s>(alloc: Global, source: &'s [u8]) -> Result<Vec<Token<'s>>, Lex
     ensures only { IfOk result (λ v. NoOthers source.now (tokens_of v.items)) }
     ensures cut { IfOk result (λ v. AreCut source.now 0 v.items (length source.now)) }
     ensures refused { IfErr result (λ e. Refuses source.now e) }
+    ensures short { OnOk result (length source.now ≤ SOURCE_LIMIT) }
     ensures long { (result ≡ Err LexError.TooLong) ↔ (SOURCE_LIMIT < length source.now) }
 {
     if source.len() > SOURCE_LIMIT {
