@@ -73,12 +73,10 @@ fn push_token<'s>(
     pos: Pos,
 ) -> Result<(), AllocError>
     ensures tokens { OnOk result (tokens_of tokens.new.items ≡ tokens_of tokens.old.items ++ with_token kind text.now pos []) }
-    ensures cut {
-        OnOk result (
-            (source : List ℕ) → span.start < span.end → text.now ≡ slice_range source span.start span.end
-            → pos ≡ lexis.place_after first_place (take span.start source)
-            → AreCut source 0 tokens.old.items span.start → AreCut source 0 tokens.new.items span.end)
-    }
+    ensures cut { OnOk result (
+        (source : List ℕ) → span.start < span.end → text.now ≡ slice_range source span.start span.end
+        → pos ≡ lexis.place_after first_place (take span.start source)
+        → AreCut source 0 tokens.old.items span.start → AreCut source 0 tokens.new.items span.end) }
 {
     if let Some(kind) = kind {
         tokens.push(Token {

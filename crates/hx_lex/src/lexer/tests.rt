@@ -1,8 +1,8 @@
 // Sources and their tokens, worked out by hand from the language's rules.
 
 use super::*;
-use std::test::Fail;
 use hx_tree::token::Mark;
+use std::test::Fail;
 
 const KEYWORDS: [(&[u8], Mark); 13] = [
     (b"int", Mark::Int),
@@ -174,7 +174,11 @@ fn is_one(alloc: Global, source: &[u8], kind: Kind) -> bool {
             [token] => {
                 token.kind == kind
                     && token.text == source
-                    && token.span == Span { start: 0, end: source.len() }
+                    && token.span
+                        == Span {
+                            start: 0,
+                            end: source.len(),
+                        }
                     && token.pos == Pos { line: 1, col: 1 }
             }
             _ => false,
@@ -186,10 +190,18 @@ fn is_one(alloc: Global, source: &[u8], kind: Kind) -> bool {
 #[test]
 fn each_mark_alone(rt: HostRuntime) {
     for entry in &KEYWORDS {
-        assert!(rt; is_one(rt.alloc(), entry.0, Kind::Mark(entry.1)), "{:?}", entry.0);
+        assert!(rt;
+            is_one(rt.alloc(), entry.0, Kind::Mark(entry.1)),
+            "{:?}",
+            entry.0
+        );
     }
     for entry in &PUNCTUATORS {
-        assert!(rt; is_one(rt.alloc(), entry.0, Kind::Mark(entry.1)), "{:?}", entry.0);
+        assert!(rt;
+            is_one(rt.alloc(), entry.0, Kind::Mark(entry.1)),
+            "{:?}",
+            entry.0
+        );
     }
 }
 
@@ -210,12 +222,27 @@ fn each_mark_before_each_other(rt: HostRuntime) -> Result<(), Fail> {
 
 #[test]
 fn names_and_keywords(rt: HostRuntime) {
-    for name in [b"x".as_slice(), b"_", b"intx", b"_int", b"Int", b"pfor2", b"If", b"i_1"] {
+    for name in [
+        b"x".as_slice(),
+        b"_",
+        b"intx",
+        b"_int",
+        b"Int",
+        b"pfor2",
+        b"If",
+        b"i_1",
+    ] {
         assert!(rt; is_one(rt.alloc(), name, Kind::Name), "{name:?}");
     }
     assert!(rt; is_one(rt.alloc(), [b'a'; 63].as_slice(), Kind::Name));
     assert_eq!(rt; refusal(rt.alloc(), [b'a'; 64].as_slice()), (4, 1, 1));
-    assert_eq!(rt; refusal(rt.alloc(), b"int aaaaaaaaaaaaaaaaaaaaaaaaaaaaaaaaaaaaaaaaaaaaaaaaaaaaaaaaaaaaaaaa;"), (4, 1, 5));
+    assert_eq!(rt;
+        refusal(
+            rt.alloc(),
+            b"int aaaaaaaaaaaaaaaaaaaaaaaaaaaaaaaaaaaaaaaaaaaaaaaaaaaaaaaaaaaaaaaa;"
+        ),
+        (4, 1, 5)
+    );
 }
 
 #[test]
@@ -223,7 +250,16 @@ fn constants(rt: HostRuntime) {
     assert!(rt; is_one(rt.alloc(), b"0", Kind::Number(0)));
     assert!(rt; is_one(rt.alloc(), b"10", Kind::Number(10)));
     assert!(rt; is_one(rt.alloc(), b"2147483647", Kind::Number(2147483647)));
-    for text in [b"2147483648".as_slice(), b"99999999999999999999", b"08", b"00", b"0x1", b"1a", b"1_", b"0_"] {
+    for text in [
+        b"2147483648".as_slice(),
+        b"99999999999999999999",
+        b"08",
+        b"00",
+        b"0x1",
+        b"1a",
+        b"1_",
+        b"0_",
+    ] {
         assert_eq!(rt; refusal(rt.alloc(), text), (2, 1, 1), "{text:?}");
     }
     assert_eq!(rt; refusal(rt.alloc(), b"int main(){ int x=08; }"), (2, 1, 19));
@@ -231,13 +267,32 @@ fn constants(rt: HostRuntime) {
 
 #[test]
 fn white_space_and_comments(rt: HostRuntime) -> Result<(), Fail> {
-    let none = [b"".as_slice(), b" \t\r\n", b"//", b"// $\xff", b"/**/", b"/* // */", b"// /*\n", b"/*/*/", b"/*\n*\n/ **/"];
+    let none = [
+        b"".as_slice(),
+        b" \t\r\n",
+        b"//",
+        b"// $\xff",
+        b"/**/",
+        b"/* // */",
+        b"// /*\n",
+        b"/*/*/",
+        b"/*\n*\n/ **/",
+    ];
     for source in none {
         assert_eq!(rt; texts(rt.alloc(), source)?.len(), 0, "{source:?}");
     }
-    assert_eq!(rt; texts(rt.alloc(), b"a/*$*/b//c\nd")?.as_slice(), b"a b d ".as_slice());
-    assert_eq!(rt; texts(rt.alloc(), b"a/b/ /c*/d")?.as_slice(), b"a / b / / c * / d ".as_slice());
-    assert_eq!(rt; texts(rt.alloc(), b"/**/*/**/")?.as_slice(), b"* ".as_slice());
+    assert_eq!(rt;
+        texts(rt.alloc(), b"a/*$*/b//c\nd")?.as_slice(),
+        b"a b d ".as_slice()
+    );
+    assert_eq!(rt;
+        texts(rt.alloc(), b"a/b/ /c*/d")?.as_slice(),
+        b"a / b / / c * / d ".as_slice()
+    );
+    assert_eq!(rt;
+        texts(rt.alloc(), b"/**/*/**/")?.as_slice(),
+        b"* ".as_slice()
+    );
     for source in [b"/* x".as_slice(), b"/*", b"/*/", b"/* *", b"/* * /"] {
         assert_eq!(rt; refusal(rt.alloc(), source), (3, 1, 1), "{source:?}");
     }
@@ -292,7 +347,10 @@ fn places(rt: HostRuntime) -> Result<(), Fail> {
         assert_eq!(rt; token.span, Span { start, end });
         assert_eq!(rt; token.pos, Pos { line, col });
     }
-    assert_eq!(rt; texts(rt.alloc(), source)?.as_slice(), b"int x = -- 1 ; ".as_slice());
+    assert_eq!(rt;
+        texts(rt.alloc(), source)?.as_slice(),
+        b"int x = -- 1 ; ".as_slice()
+    );
     Ok(())
 }
 
