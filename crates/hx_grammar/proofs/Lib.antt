@@ -1,0 +1,7 @@
+pub mod Readings
+pub mod Lists
+pub mod Operators
+pub mod ExprSound
+pub mod PartSound
+pub mod StmtSound
+pub mod ItemSound
