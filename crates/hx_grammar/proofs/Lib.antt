@@ -5,3 +5,4 @@ pub mod ExprSound
 pub mod PartSound
 pub mod StmtSound
 pub mod ItemSound
+pub mod ExprComplete

@@ -118,6 +118,9 @@ pub record Answers {X : Type 0} (room height : ℕ) (read : Reading X) (x : X) (
 pub answer : {X : Type 0} {room : ℕ} {x : X} {to : List Token} → Answers room 0 (Ok (x, to)) x to
 answer {X} {room} = record { or_deep = inl (omega arith, refl) }
 
+pub answer_as : {X : Type 0} {room : ℕ} {x y : X} {to : List Token} → x ≡ y → Answers room 0 (Ok (x, to)) y to
+answer_as {X} {room} {x} {y} {to} e = record { or_deep = inl (omega arith, ap (λ (z : X). made {X = X × List Token} (z, to)) e) }
+
 pub answer_then : {X Y : Type 0} {room h k : ℕ} {x : X} {y : Y} {mid to : List Token} (read : Reading X) (f : X × List Token → Reading Y)
     → Answers room h read x mid → Answers room k (f (x, mid)) y to → Answers room (max h k) (read >>= f) y to
 answer_then {X} {Y} {room} {h} {k} {x} {y} {mid} {to} read f first next = record { or_deep = go (first.or_deep) (next.or_deep) }
