@@ -6,3 +6,6 @@ pub mod PartSound
 pub mod StmtSound
 pub mod ItemSound
 pub mod ExprComplete
+pub mod PartComplete
+pub mod StmtShape
+pub mod StmtComplete

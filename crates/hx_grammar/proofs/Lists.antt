@@ -83,7 +83,7 @@ at_comma_ends from to is = comma_none from (behind mark.Comma from) to is
 pub onward_comma : Onward at_comma
 onward_comma from to is = let h = at_comma_further from to is in let e : length from ≡ suc (length to) = ap length h.1 in omega arith
 
-abbrev NoComma : List Token → Type 0
+abbrev pub NoComma : List Token → Type 0
 NoComma to = behind mark.Comma to ≡ None
 
 comma_run : {X : Type 0} (P : X → Phrase) (xs : List X) (from to : List Token) → Run at_comma P xs from to → EachBehindComma P xs from to × NoComma to
@@ -145,10 +145,6 @@ until_run P m (x ∷ xs) from to (a, b, is, h, hs) =
     let t = until_run P m xs b to hs in
     let e = mark_none from (behind m from) a is in
     (t.0, (b, rw (e.1) h, t.1), t.2)
-
--- an item before whose first token the list goes on
-abbrev pub Before : {X : Type 0} → (List Token → Type 0) → (X → Phrase) → X → Phrase
-Before Q P x from to = P x from to × Q from
 
 run_until : {X : Type 0} (P : X → Phrase) (m : Mark) (xs : List X) (from mid to : List Token) → same_mark m m ≡ true → OneAfterOther P xs from mid → The m mid to
     → ((x : X) (from to : List Token) → P x from to → behind m from ≡ None) → Run (until m) P xs from to

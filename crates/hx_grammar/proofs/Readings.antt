@@ -48,6 +48,15 @@ pub behind_nothing : (m : Mark) → behind m [] ≡ None
 unfolding behind
 behind_nothing m = refl
 
+pub the_shorter : (m : Mark) (from to : List Token) → The m from to → length to < length from
+the_shorter m from to h = let e : length from ≡ suc (length to) = ap length h.1 in omega arith
+
+pub named_shorter : (x : Name) (from to : List Token) → Named x from to → length to < length from
+named_shorter x from to h = let e : length from ≡ suc (length to) = ap length h in omega arith
+
+pub numeral_shorter : (n : ℕ) (from to : List Token) → Numeral n from to → length to < length from
+numeral_shorter n from to h = let e : length from ≡ suc (length to) = ap length h.1 in omega arith
+
 -- ---- what a reading yields
 
 -- whatever is read, this is so of it
@@ -117,6 +126,10 @@ pub record Answers {X : Type 0} (room height : ℕ) (read : Reading X) (x : X) (
 
 pub answer : {X : Type 0} {room : ℕ} {x : X} {to : List Token} → Answers room 0 (Ok (x, to)) x to
 answer {X} {room} = record { or_deep = inl (omega arith, refl) }
+
+-- a list that nothing is read of
+pub answer_at : {X : Type 0} {room : ℕ} {x : X} {from to : List Token} → from ≡ to → Answers room 0 (Ok (x, from)) x to
+answer_at {X} {room} {x} {from} {to} e = record { or_deep = inl (omega arith, ap (λ (s : List Token). made {X = X × List Token} (x, s)) e) }
 
 pub answer_as : {X : Type 0} {room : ℕ} {x y : X} {to : List Token} → x ≡ y → Answers room 0 (Ok (x, to)) y to
 answer_as {X} {room} {x} {y} {to} e = record { or_deep = inl (omega arith, ap (λ (z : X). made {X = X × List Token} (z, to)) e) }
