@@ -9,3 +9,4 @@ pub mod ExprComplete
 pub mod PartComplete
 pub mod StmtShape
 pub mod StmtComplete
+pub mod ItemComplete
