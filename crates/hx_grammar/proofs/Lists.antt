@@ -94,7 +94,7 @@ comma_run P (x ∷ xs) from to (a, b, is, h, hs) = let t = comma_run P xs b to h
 abbrev pub BeforeEnd : {X : Type 0} → (X → Phrase) → X → Phrase
 BeforeEnd P x from to = P x from to × Ended to
 
-comma_first : {X : Type 0} (P : X → Phrase) (xs : List X) (from to : List Token) → EachBehindComma P xs from to → Ended to → Ended from
+pub comma_first : {X : Type 0} (P : X → Phrase) (xs : List X) (from to : List Token) → EachBehindComma P xs from to → Ended to → Ended from
 comma_first P [] from to is end = rw is end
 comma_first P (x ∷ xs) from to (a, h, (b, i, hs)) end = ended mark.Comma from a (refl, refl, refl, refl) h
 

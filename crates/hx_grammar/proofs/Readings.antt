@@ -168,6 +168,9 @@ pub answer_name : {Y : Type 0} {room h : ℕ} {y : Y} {mid to : List Token} (x :
     → Answers room h (f (x, mid)) y to → Answers room h (name_at from >>= f) y to
 answer_name {Y} {room} {h} {y} {mid} {to} x from f is next = subst (λ (s : List Token). Answers room h (name_at s >>= f) y to) (sym is) next
 
+pub answer_one_name : {room : ℕ} {to : List Token} (x : Name) (from : List Token) → Named x from to → Answers room 0 (name_at from) x to
+answer_one_name {room} {to} x from is = subst (λ (s : List Token). Answers room 0 (name_at s) x to) (sym is) answer
+
 pub answer_number : {Y : Type 0} {room h : ℕ} {y : Y} {mid to : List Token} (n : ℕ) (from : List Token) (f : ℕ × List Token → Reading Y) → Numeral n from mid
     → Answers room h (f (n, mid)) y to → Answers room h (number_at from >>= f) y to
 answer_number {Y} {room} {h} {y} {mid} {to} n from f is next = subst (λ (s : List Token). Answers room h (number_at s >>= f) y to) (sym is.1) next
