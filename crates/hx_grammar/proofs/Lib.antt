@@ -10,3 +10,4 @@ pub mod PartComplete
 pub mod StmtShape
 pub mod StmtComplete
 pub mod ItemComplete
+pub mod Whole
