@@ -1,5 +1,5 @@
 -- An expression that is spelled is read, at any room, or it's too deep.
-use Rattle.std.proofs.Common.{◌≡◌, ℕ, zero, suc, ◌+◌, ◌-◌, ◌<◌, ◌≤◌, max, Bool, true, false, cond, List, [], ◌∷◌, length, Option, Some, None, Result, Ok, Err, ◌⊎◌, inl, inr, refl, sym, ap, subst, ◌∙◌, arith, rules}
+use Rattle.std.proofs.Common.{◌≡◌, ℕ, zero, suc, ◌+◌, ◌-◌, ◌<◌, ◌≤◌, max, Bool, true, false, List, [], ◌∷◌, Option, Some, None, Ok, Err, ◌⊎◌, inl, inr, refl, sym, ap, subst, ◌∙◌, arith, rules}
 use Rattle.std.proofs.lemmas.Bool.{lt-ltb, le-ltb, cases_lt}
 use Rattle.std.specs.Prelude.{nat_lt}
 use denote.Enum.Bare.{same_true}
@@ -12,13 +12,13 @@ use Rattle.hx_tree.specs.declared.tree.UnaryOp.TheVariants as unary
 use Rattle.hx_tree.specs.declared.tree.BinaryOp.{BinaryOp}
 use Rattle.hx_tree.specs.Tree.{Name, Expr, Number, Variable, Element, Call, Paren, Unary, Binary, Exprs, no_exprs, expr_and, exprs}
 use Rattle.hx_tree.specs.Lexis.{Token, NameToken, NumberToken, MarkToken}
-use Rattle.hx_tree.specs.Grammar.{The, At, Named, IsExprOf, IsExpr, InParens, AreArguments, AreMoreArguments, Listed, EachBehindComma, Optional, layer, binary_mark, unary_mark, ◌⨾◌}
+use Rattle.hx_tree.specs.Grammar.{The, IsExprOf, IsExpr, InParens, AreArguments, AreMoreArguments, EachBehindComma, Optional, layer, binary_mark, unary_mark}
 use Rattle.hx_tree.specs.Height.{height, heights, greatest, if_there}
 use Rattle.hx_tree.proofs.Phrases.{weaken, expr_shorter}
-use Rattle.hx_grammar.specs.Reading.{Refusal, TooDeep, ◌>>=◌, Reading, Reader, same_mark, behind, binary_of, operator_at, Below, arguments_turn, arguments_at, name_turn, named_at, unary_at, marked_at, operand_at, chain_turn, chain, expr_at, in_parens_at, optional_turn, optional_at, listed}
-use Rattle.hx_grammar.proofs.Readings.{behind_here, behind_other, behind_name, behind_number, Answers, answer, answer_as, answer_then, answer_behind, answer_there, answer_absent, at_height, node, Ended, Ends, ended}
+use Rattle.hx_grammar.specs.Reading.{TooDeep, Reader, same_mark, behind, binary_of, operator_at, Below, arguments_turn, arguments_at, name_turn, named_at, unary_at, marked_at, operand_at, chain, expr_at, in_parens_at, optional_turn, optional_at, listed}
+use Rattle.hx_grammar.proofs.Readings.{behind_other, behind_name, behind_number, Answers, answer, answer_as, answer_then, answer_behind, answer_there, answer_absent, at_height, node, Ended, ended}
 use Rattle.hx_grammar.proofs.Lists.{Each, IsRead, BeforeEnd, listed_answers}
-use Rattle.hx_grammar.proofs.Operators.{mark_of, layer_pos, operator_is, operator_here, Above, above_operator, no_operator}
+use Rattle.hx_grammar.proofs.Operators.{mark_of, layer_pos, operator_here, Above, above_operator, no_operator}
 
 -- ---- what follows an expression
 
@@ -104,10 +104,12 @@ no_room k from = refl
 closed : (e : Expr) → Complete e → (n k : ℕ) (from to : List Token) → IsExprOf k e from to → Stops (top e) to → operator_at k to ≡ None → Answers n (height e) (expr_at n k from) e to
 closed e complete zero k from to is stops none = record { or_deep = inr (height_pos e, no_room k from) }
 closed e complete (suc n) k from to is stops none =
-    record { or_deep = elim (complete n k from to is stops) [
-      | inl (fuel, enough, small, h) ↦ inl (small, h ∙ chain_ends (expr_at n) fuel (suc n) k e to none)
-      | inr (deep, h) ↦ inr (deep, h)
-    ] }
+    record {
+      or_deep = elim (complete n k from to is stops) [
+        | inl (fuel, enough, small, h) ↦ inl (small, h ∙ chain_ends (expr_at n) fuel (suc n) k e to none)
+        | inr (deep, h) ↦ inr (deep, h)
+      ];
+    }
 
 -- an expression of all layers, before what ends it
 before_end : (e : Expr) → Complete e → (n : ℕ) (from to : List Token) → IsExpr e from to → Ended to → Answers n (height e) (expr_at n 10 from) e to
@@ -221,10 +223,10 @@ arguments_case n no_exprs each from mid to is end =
     answer_there mark.CloseParen from (arguments_turn (expr_at n) from) refl (rw is end) answer
 arguments_case n (expr_and e es) each from mid to (a, h, i) end =
     answer_absent mark.CloseParen from (arguments_turn (expr_at n) from) (expr_first mark.CloseParen (refl, refl, refl, refl) e 10 from a h)
-      (at_height (answer_then (listed (expr_at n 10) from) _
-        (listed_answers IsExpr n height (expr_at n 10) (e ∷ list_of es) each from mid (a, h, more_listed es a mid i) (ended mark.CloseParen mid to (refl, refl, refl, refl) end)
-          (behind_other mark.Comma mark.CloseParen mid to refl end))
-        (answer_behind mark.CloseParen mid _ refl end answer)) (heights (expr_and e es)) (let x = heights_list es in omega arith))
+    (at_height (answer_then (listed (expr_at n 10) from) _
+    (listed_answers IsExpr n height (expr_at n 10) (e ∷ list_of es) each from mid (a, h, more_listed es a mid i) (ended mark.CloseParen mid to (refl, refl, refl, refl) end)
+    (behind_other mark.Comma mark.CloseParen mid to refl end))
+    (answer_behind mark.CloseParen mid _ refl end answer)) (heights (expr_and e es)) (let x = heights_list es in omega arith))
 
 -- ---- operands
 
@@ -236,29 +238,29 @@ variable_case : (n k : ℕ) (x : Name) (to : List Token) → Stops 0 to → Goes
 unfolding operand_at named_at
 variable_case n k x to stops =
     operand n k (Variable x) (NameToken x ∷ to) to (omega arith)
-      (answer_absent mark.OpenBracket to (λ o. name_turn (expr_at n) x to o (behind mark.OpenParen to)) stops.index
-        (answer_absent mark.OpenParen to (name_turn (expr_at n) x to None) stops.arguments (node answer 1 refl)))
+    (answer_absent mark.OpenBracket to (λ o. name_turn (expr_at n) x to o (behind mark.OpenParen to)) stops.index
+    (answer_absent mark.OpenParen to (name_turn (expr_at n) x to None) stops.arguments (node answer 1 refl)))
 
 element_case : (n k : ℕ) (x : Name) (e : Expr) (a b c to : List Token) → The mark.OpenBracket a b → Answers n (height e) (expr_at n 10 b) e c → The mark.CloseBracket c to → Goes n k (Element x e) (NameToken x ∷ a) to
 unfolding operand_at named_at
 element_case n k x e a b c to h i j =
     operand n k (Element x e) (NameToken x ∷ a) to (omega arith)
-      (answer_there mark.OpenBracket a (λ o. name_turn (expr_at n) x a o (behind mark.OpenParen a)) refl h
-        (node (answer_then (expr_at n 10 b) _ i (answer_behind mark.CloseBracket c _ refl j answer)) (height (Element x e)) (omega arith)))
+    (answer_there mark.OpenBracket a (λ o. name_turn (expr_at n) x a o (behind mark.OpenParen a)) refl h
+    (node (answer_then (expr_at n 10 b) _ i (answer_behind mark.CloseBracket c _ refl j answer)) (height (Element x e)) (omega arith)))
 
 call_case : (n k : ℕ) (f : Name) (es : Exprs) (a b to : List Token) → The mark.OpenParen a b → Answers n (heights es) (arguments_at (expr_at n) b) (list_of es) to → Goes n k (Call f es) (NameToken f ∷ a) to
 unfolding operand_at named_at
 call_case n k f es a b to h i =
     operand n k (Call f es) (NameToken f ∷ a) to (omega arith)
-      (answer_absent mark.OpenBracket a (λ o. name_turn (expr_at n) f a o (behind mark.OpenParen a)) (behind_other mark.OpenBracket mark.OpenParen a b refl h)
-        (answer_there mark.OpenParen a (name_turn (expr_at n) f a None) refl h
-          (node (answer_then (arguments_at (expr_at n) b) _ i (answer_as (ap (λ (x : Exprs). Call f x) (exprs_list es)))) (height (Call f es)) (omega arith))))
+    (answer_absent mark.OpenBracket a (λ o. name_turn (expr_at n) f a o (behind mark.OpenParen a)) (behind_other mark.OpenBracket mark.OpenParen a b refl h)
+    (answer_there mark.OpenParen a (name_turn (expr_at n) f a None) refl h
+    (node (answer_then (arguments_at (expr_at n) b) _ i (answer_as (ap (λ (x : Exprs). Call f x) (exprs_list es)))) (height (Call f es)) (omega arith))))
 
 paren_case : (n k : ℕ) (e : Expr) (p : Pos) (a b to : List Token) → Answers n (height e) (expr_at n 10 a) e b → The mark.CloseParen b to → Goes n k (Paren e) (MarkToken mark.OpenParen p ∷ a) to
 unfolding operand_at marked_at
 paren_case n k e p a b to h i =
     operand n k (Paren e) (MarkToken mark.OpenParen p ∷ a) to (omega arith)
-      (node (answer_then (expr_at n 10 a) _ h (answer_behind mark.CloseParen b _ refl i answer)) (height (Paren e)) (omega arith))
+    (node (answer_then (expr_at n 10 a) _ h (answer_behind mark.CloseParen b _ refl i answer)) (height (Paren e)) (omega arith))
 
 unary_case : (n k : ℕ) (o : UnaryOp) (e : Expr) (p : Pos) (a to : List Token) → Answers n (height e) (expr_at n 0 a) e to → Goes n k (Unary o e) (MarkToken (unary_mark o) p ∷ a) to
 unfolding operand_at marked_at unary_at
@@ -307,7 +309,7 @@ pub in_parens_answers : (e : Expr) (n : ℕ) (from to : List Token) → InParens
 unfolding in_parens_at
 in_parens_answers e n from to (a, h, (b, i, j)) =
     answer_behind mark.OpenParen from _ refl h
-      (at_height (answer_then (expr_at n 10 a) _ (expr_answers e n a b i (ended mark.CloseParen b to (refl, refl, refl, refl) j)) (answer_behind mark.CloseParen b _ refl j answer)) (height e) (omega arith))
+    (at_height (answer_then (expr_at n 10 a) _ (expr_answers e n a b i (ended mark.CloseParen b to (refl, refl, refl, refl) j)) (answer_behind mark.CloseParen b _ refl j answer)) (height e) (omega arith))
 
 -- what may be absent before a mark
 pub optional_answers : {X : Type 0} (P : X → List Token → List Token → Type 0) (m : Mark) (n : ℕ) (h : X → ℕ) (read : Reader X) → same_mark m m ≡ true
@@ -318,4 +320,4 @@ unfolding optional_at
 optional_answers P m n h read same first reads None from mid to is end = answer_there m from (optional_turn m read from) same (rw is end) answer
 optional_answers P m n h read same first reads (Some x) from mid to is end =
     answer_absent m from (optional_turn m read from) (first x from mid is)
-      (at_height (answer_then (read from) _ (reads x from mid to is end) (answer_behind m mid _ same end answer)) (h x) (omega arith))
+    (at_height (answer_then (read from) _ (reads x from mid to is end) (answer_behind m mid _ same end answer)) (h x) (omega arith))

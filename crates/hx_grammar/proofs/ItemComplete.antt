@@ -1,20 +1,18 @@
 -- Globals, functions and programs that are spelled are read, at any room, or they're too deep.
-use Rattle.std.proofs.Common.{◌≡◌, ℕ, zero, suc, ◌+◌, ◌-◌, ◌<◌, ◌≤◌, max, Bool, true, false, cond, List, [], ◌∷◌, length, Option, Some, None, Result, Ok, Err, ◌⊎◌, inl, inr, refl, sym, ap, subst, ◌∙◌, arith, rules}
-use Rattle.hx_tree.specs.declared.token.Pos.{Pos}
-use Rattle.hx_tree.specs.declared.token.Mark.{Mark}
+use Rattle.std.proofs.Common.{◌≡◌, ℕ, suc, ◌+◌, ◌<◌, ◌≤◌, Bool, true, false, List, [], ◌∷◌, length, Some, None, Ok, Err, ◌⊎◌, inl, inr, refl, ap, subst, arith}
 use Rattle.hx_tree.specs.declared.token.Mark.TheVariants as mark
 use Rattle.hx_tree.specs.declared.tree.Constant.{Constant}
 use Rattle.hx_tree.specs.declared.tree.Returns.{Returns}
 use Rattle.hx_tree.specs.declared.tree.Returns.TheVariants as returns
-use Rattle.hx_tree.specs.Tree.{Name, Shape, Scalar, Array, GlobalDecl, Params, NoParams, VoidParams, NamedParams, Parts, parts, Func, Item, Globals, Function, Program}
-use Rattle.hx_tree.specs.Lexis.{Token, NameToken, NumberToken, MarkToken}
-use Rattle.hx_tree.specs.Grammar.{The, Named, Numeral, Sign, Optional, Listed, EachBehindComma, IsConstant, AreValues, IsShape, IsGlobal, IsParams, returns_mark, AreParts, IsItem, AreItems, IsProgram, ◌⨾◌}
+use Rattle.hx_tree.specs.Tree.{Name, Shape, Scalar, Array, GlobalDecl, Params, NoParams, VoidParams, NamedParams, Parts, Func, Item, Globals, Function, Program}
+use Rattle.hx_tree.specs.Lexis.{Token}
+use Rattle.hx_tree.specs.Grammar.{The, Named, Numeral, Sign, EachBehindComma, IsConstant, AreValues, IsShape, IsGlobal, IsParams, returns_mark, AreParts, IsItem, AreItems, IsProgram, ◌⨾◌}
 use Rattle.hx_tree.specs.Height.{greatest, parts_height, item_height, program_height}
-use Rattle.hx_grammar.specs.Reading.{Refusal, TooDeep, ◌>>=◌, Reading, Reader, behind, name_at, all_of, until_end, listed, listed_from, constant_turn, constant_at, values_turn, values_at, shape_turn, shape_at, global_at, globals_at, param_at, params_turn, params_at, parts_at, stmt_at, function_at, int_turn, int_item_at, void_item_at, item_turn, item_at, program_at}
-use Rattle.hx_grammar.proofs.Readings.{behind_here, behind_other, behind_name, behind_number, the_shorter, named_shorter, numeral_shorter, Answers, answer, answer_as, answer_at, answer_then, answer_behind, answer_there, answer_absent, answer_name, answer_one_name, answer_number, at_height, node, Ended, Ends, ended}
-use Rattle.hx_grammar.proofs.Lists.{Each, IsRead, BeforeEnd, NoComma, OneAfterOther, comma_first, listed_answers, listed_from_answers, end_answers}
+use Rattle.hx_grammar.specs.Reading.{TooDeep, behind, listed, listed_from, constant_turn, constant_at, values_turn, values_at, shape_turn, shape_at, global_at, globals_at, param_at, params_turn, params_at, parts_at, stmt_at, function_at, int_turn, int_item_at, void_item_at, item_turn, item_at, program_at}
+use Rattle.hx_grammar.proofs.Readings.{behind_other, behind_number, the_shorter, named_shorter, numeral_shorter, Answers, answer, answer_as, answer_at, answer_then, answer_behind, answer_there, answer_absent, answer_name, answer_one_name, answer_number, at_height, node, Ended, ended}
+use Rattle.hx_grammar.proofs.Lists.{Each, IsRead, BeforeEnd, OneAfterOther, comma_first, listed_answers, listed_from_answers, end_answers}
 use Rattle.hx_grammar.proofs.StmtShape.{parts_length}
-use Rattle.hx_grammar.proofs.StmtComplete.{list_of_parts, parts_list, parts_answers}
+use Rattle.hx_grammar.proofs.StmtComplete.{parts_list, parts_answers}
 
 -- what holds no expression takes no room
 abbrev flat : {X : Type 0} → X → ℕ
@@ -49,10 +47,10 @@ unfolding values_at
 values_case [] n from to is end = answer_absent mark.Assign from (values_turn from) (rw is (end.initialiser)) (answer_at is)
 values_case (c ∷ cs) n from to (a, h, (b, i, (d, j, k))) end =
     answer_there mark.Assign from (values_turn from) refl h
-      (answer_behind mark.OpenBrace a _ refl i
-        (at_height (answer_then (listed constant_at b) _
-          (listed_answers IsConstant n flat constant_at (c ∷ cs) (constants_read (c ∷ cs) n) b d j (ended mark.CloseBrace d to (refl, refl, refl, refl) k) (behind_other mark.Comma mark.CloseBrace d to refl k))
-          (answer_behind mark.CloseBrace d _ refl k answer)) 0 (let e = greatest_flat (c ∷ cs) in omega arith)))
+    (answer_behind mark.OpenBrace a _ refl i
+    (at_height (answer_then (listed constant_at b) _
+    (listed_answers IsConstant n flat constant_at (c ∷ cs) (constants_read (c ∷ cs) n) b d j (ended mark.CloseBrace d to (refl, refl, refl, refl) k) (behind_other mark.Comma mark.CloseBrace d to refl k))
+    (answer_behind mark.CloseBrace d _ refl k answer)) 0 (let e = greatest_flat (c ∷ cs) in omega arith)))
 
 constants_length : (cs : List Constant) (from to : List Token) → EachBehindComma IsConstant cs from to → length to ≤ length from
 constants_length [] from to h = let e : length from ≡ length to = ap length h in omega arith
@@ -69,15 +67,15 @@ shape_case : (s : Shape) (n : ℕ) (from to : List Token) → IsShape s from to 
 unfolding shape_at
 shape_case (Scalar None) n from to is end =
     answer_absent mark.OpenBracket from (λ o. shape_turn from o (behind mark.Assign from)) (rw is (end.index))
-      (answer_absent mark.Assign from (shape_turn from None) (rw is (end.initialiser)) (answer_at is))
+    (answer_absent mark.Assign from (shape_turn from None) (rw is (end.initialiser)) (answer_at is))
 shape_case (Scalar (Some c)) n from to (a, h, is) end =
     answer_absent mark.OpenBracket from (λ o. shape_turn from o (behind mark.Assign from)) (behind_other mark.OpenBracket mark.Assign from a refl h)
-      (answer_there mark.Assign from (shape_turn from None) refl h
-        (at_height (answer_then (constant_at a) _ (constant_case c.is_negated c.number n a to is) answer) 0 refl))
+    (answer_there mark.Assign from (shape_turn from None) refl h
+    (at_height (answer_then (constant_at a) _ (constant_case c.is_negated c.number n a to is) answer) 0 refl))
 shape_case (Array i cs) n from to (a, h, (b, num, (c, close, values))) end =
     answer_there mark.OpenBracket from (λ o. shape_turn from o (behind mark.Assign from)) refl h
-      (answer_number i a _ num (answer_behind mark.CloseBracket b _ refl close
-        (at_height (answer_then (values_at c) _ (values_case cs n c to values end) answer) 0 refl)))
+    (answer_number i a _ num (answer_behind mark.CloseBracket b _ refl close
+    (at_height (answer_then (values_at c) _ (values_case cs n c to values end) answer) 0 refl)))
 
 shape_length : (s : Shape) (from to : List Token) → IsShape s from to → length to ≤ length from
 shape_length (Scalar None) from to h = let e : length from ≡ length to = ap length h in omega arith
@@ -113,11 +111,11 @@ globals_case g gs n room from a b c to name shape more end =
     let last = ended mark.Semicolon c to (refl, refl, refl, refl) end in
     let follows = comma_first IsGlobal gs b c more last in
     answer_name g.name from _ name
-      (answer_absent mark.OpenParen a (int_turn room g.name a) (shape_no_call g.shape a b shape follows)
-        (at_height (answer_then (shape_at a) _ (shape_case g.shape n a b shape follows)
-          (answer_then (listed_from global_at g b) _
-            (listed_from_answers IsGlobal n flat global_at g gs (globals_read gs n) b c more last (behind_other mark.Comma mark.Semicolon c to refl end))
-            (answer_behind mark.Semicolon c _ refl end answer))) 0 (let e = greatest_flat gs in omega arith)))
+    (answer_absent mark.OpenParen a (int_turn room g.name a) (shape_no_call g.shape a b shape follows)
+    (at_height (answer_then (shape_at a) _ (shape_case g.shape n a b shape follows)
+    (answer_then (listed_from global_at g b) _
+    (listed_from_answers IsGlobal n flat global_at g gs (globals_read gs n) b c more last (behind_other mark.Comma mark.Semicolon c to refl end))
+    (answer_behind mark.Semicolon c _ refl end answer))) 0 (let e = greatest_flat gs in omega arith)))
 
 -- ---- parameters
 
@@ -150,15 +148,15 @@ unfolding params_at
 params_case NoParams n from mid to is end = answer_there mark.CloseParen from (λ o. params_turn from o (behind mark.Void from)) refl (rw is end) answer
 params_case VoidParams n from mid to is end =
     answer_absent mark.CloseParen from (λ o. params_turn from o (behind mark.Void from)) (behind_other mark.CloseParen mark.Void from mid refl is)
-      (answer_there mark.Void from (params_turn from None) refl is (answer_behind mark.CloseParen mid _ refl end answer))
+    (answer_there mark.Void from (params_turn from None) refl is (answer_behind mark.CloseParen mid _ refl end answer))
 params_case (NamedParams []) n from mid to is end = absurd is
 params_case (NamedParams (x ∷ xs)) n from mid to (a, (b, int, name), more) end =
     answer_absent mark.CloseParen from (λ o. params_turn from o (behind mark.Void from)) (behind_other mark.CloseParen mark.Int from b refl int)
-      (answer_absent mark.Void from (params_turn from None) (behind_other mark.Void mark.Int from b refl int)
-        (at_height (answer_then (listed param_at from) _
-          (listed_answers IsParam n flat param_at (x ∷ xs) (params_read (x ∷ xs) n) from mid (a, (b, int, name), more) (ended mark.CloseParen mid to (refl, refl, refl, refl) end)
-            (behind_other mark.Comma mark.CloseParen mid to refl end))
-          (answer_behind mark.CloseParen mid _ refl end answer)) 0 (let e = greatest_flat (x ∷ xs) in omega arith)))
+    (answer_absent mark.Void from (params_turn from None) (behind_other mark.Void mark.Int from b refl int)
+    (at_height (answer_then (listed param_at from) _
+    (listed_answers IsParam n flat param_at (x ∷ xs) (params_read (x ∷ xs) n) from mid (a, (b, int, name), more) (ended mark.CloseParen mid to (refl, refl, refl, refl) end)
+    (behind_other mark.Comma mark.CloseParen mid to refl end))
+    (answer_behind mark.CloseParen mid _ refl end answer)) 0 (let e = greatest_flat (x ∷ xs) in omega arith)))
 
 -- ---- functions
 
@@ -170,10 +168,10 @@ function_case : (room : ℕ) (f : Func) (from to : List Token) → Rest f.params
 unfolding function_at
 function_case room f from to (a, params, (b, close, (c, brace, (d, body, end)))) =
     at_height (answer_then (params_at from) _ (params_case f.params room from a b params close)
-      (answer_behind mark.OpenBrace b _ refl brace
-        (answer_then (parts_at room (stmt_at room) c) _ (parts_answers f.body room c d to body end)
-          (answer_as (ap (λ (x : Parts). Function (record { returns = f.returns; name = f.name; params = f.params; body = x })) (parts_list f.body))))))
-      (parts_height f.body) (omega arith)
+    (answer_behind mark.OpenBrace b _ refl brace
+    (answer_then (parts_at room (stmt_at room) c) _ (parts_answers f.body room c d to body end)
+    (answer_as (ap (λ (x : Parts). Function (record { returns = f.returns; name = f.name; params = f.params; body = x })) (parts_list f.body))))))
+    (parts_height f.body) (omega arith)
 
 void_case : (room : ℕ) (x : Name) (i : Item) (h : ℕ) (from a b to : List Token) → Named x from a → The mark.OpenParen a b → Answers room h (function_at room returns.Void x b) i to → Answers room h (void_item_at room from) i to
 unfolding void_item_at
@@ -193,18 +191,18 @@ begins_void : (n room h : ℕ) (i : Item) (from a to : List Token) → The mark.
 unfolding item_at
 begins_void n room h i from a to void is =
     answer_absent mark.Int from (λ o. item_turn room from o (behind mark.Void from)) (behind_other mark.Int mark.Void from a refl void)
-      (answer_there mark.Void from (item_turn room from None) refl void is)
+    (answer_there mark.Void from (item_turn room from None) refl void is)
 
 -- a function by what it returns
 by_returns : (room : ℕ) (r : Returns) (f : Func) (from a b c to : List Token) → f.returns ≡ r → The (returns_mark r) from a → Named f.name a b → The mark.OpenParen b c → Rest f.params f.body c to
     → Answers room (parts_height f.body) (item_at room from) (Function f) to
 by_returns room returns.Int f from a b c to e h name call rest =
     let is : Answers room (parts_height f.body) (function_at room returns.Int f.name c) (Function f) to =
-      subst (λ (s : Returns). Answers room (parts_height f.body) (function_at room s f.name c) (Function f) to) e (function_case room f c to rest) in
+    subst (λ (s : Returns). Answers room (parts_height f.body) (function_at room s f.name c) (Function f) to) e (function_case room f c to rest) in
     begins_int room room (parts_height f.body) (Function f) from a to h (int_case room f.name (Function f) (parts_height f.body) a b c to name call is)
 by_returns room returns.Void f from a b c to e h name call rest =
     let is : Answers room (parts_height f.body) (function_at room returns.Void f.name c) (Function f) to =
-      subst (λ (s : Returns). Answers room (parts_height f.body) (function_at room s f.name c) (Function f) to) e (function_case room f c to rest) in
+    subst (λ (s : Returns). Answers room (parts_height f.body) (function_at room s f.name c) (Function f) to) e (function_case room f c to rest) in
     begins_void room room (parts_height f.body) (Function f) from a to h (void_case room f.name (Function f) (parts_height f.body) a b c to name call is)
 
 item_answers : (i : Item) (room : ℕ) (from to : List Token) → IsItem i from to → Answers (suc (suc room)) (item_height i) (item_at room from) i to

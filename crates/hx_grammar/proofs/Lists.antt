@@ -1,12 +1,12 @@
 -- The loop of lists: what it reads, and that it reads each list that is spelled.
-use Rattle.std.proofs.Common.{◌≡◌, ℕ, zero, suc, ◌+◌, ◌-◌, ◌<◌, ◌≤◌, max, Bool, true, false, cond, List, [], ◌∷◌, length, Option, Some, None, Result, Ok, Err, ◌⊎◌, inl, inr, refl, sym, ap, subst, ◌∙◌, arith, rules}
+use Rattle.std.proofs.Common.{◌≡◌, ℕ, zero, suc, ◌<◌, ◌≤◌, max, true, List, [], ◌∷◌, length, Option, Some, None, Err, refl, sym, ap, arith}
 use Rattle.hx_tree.specs.declared.token.Mark.{Mark}
 use Rattle.hx_tree.specs.declared.token.Mark.TheVariants as mark
-use Rattle.hx_tree.specs.Lexis.{Token, NameToken, NumberToken, MarkToken}
+use Rattle.hx_tree.specs.Lexis.{Token}
 use Rattle.hx_tree.specs.Grammar.{Phrase, The, Nothing, EachBehindComma, Listed, ◌⨾◌}
 use Rattle.hx_tree.specs.Height.{greatest}
-use Rattle.hx_grammar.specs.Reading.{Refusal, Syntax, TooDeep, ◌>>=◌, Reading, Reader, same_mark, behind, expect, Turn, Further, Ends, comma_turn, at_comma, mark_turn, until, until_end, turned, many, all_of, listed_from, listed}
-use Rattle.hx_grammar.proofs.Readings.{behind_is, behind_here, behind_other, Yields, yields, yields_none, yields_then, yields_more, Answers, answer, answer_then, at_height, Ended, ended}
+use Rattle.hx_grammar.specs.Reading.{TooDeep, Reader, same_mark, behind, Turn, Further, Ends, comma_turn, at_comma, mark_turn, until, until_end, turned, many, all_of, listed_from, listed}
+use Rattle.hx_grammar.proofs.Readings.{behind_is, behind_here, Yields, yields, yields_none, yields_then, yields_more, Answers, answer, answer_then, at_height, Ended, ended}
 
 -- ---- runs
 

@@ -1,5 +1,5 @@
 -- The operator in front.
-use Rattle.std.proofs.Common.{◌≡◌, ℕ, zero, suc, ◌+◌, ◌-◌, ◌<◌, ◌≤◌, Bool, true, false, cond, List, [], ◌∷◌, Option, Some, None, refl, sym, ap, subst, ◌∙◌, arith, rules}
+use Rattle.std.proofs.Common.{◌≡◌, ℕ, ◌<◌, ◌≤◌, Bool, true, false, cond, List, [], ◌∷◌, Option, Some, None, refl, sym, ap, subst, ◌∙◌, arith}
 use Rattle.std.proofs.lemmas.Bool.{leb-true, leb-false, le-leb}
 use Rattle.std.specs.Prelude.{nat_le}
 use Rattle.hx_tree.specs.declared.token.Pos.{Pos}
@@ -7,15 +7,11 @@ use Rattle.hx_tree.specs.declared.token.Mark.{Mark}
 use Rattle.hx_tree.specs.declared.token.Mark.TheVariants as mark
 use Rattle.hx_tree.specs.declared.tree.BinaryOp.{BinaryOp}
 use Rattle.hx_tree.specs.declared.tree.BinaryOp.TheVariants.{Strict, And, Or}
-use Rattle.hx_tree.specs.declared.tree.Operator.{Operator}
 use Rattle.hx_tree.specs.declared.tree.Operator.TheVariants as op
 use Rattle.hx_tree.specs.Lexis.{Token, NameToken, NumberToken, MarkToken}
 use Rattle.hx_tree.specs.Grammar.{layer, binary_mark}
-use Rattle.hx_grammar.specs.Reading.{same_mark, behind, binary_of, within, operator_at}
-
-cond_some : {X : Type 0} (b : Bool) (x y : X) → cond b (Some x) None ≡ Some y → (b ≡ true) × (x ≡ y)
-cond_some true x y e = (refl, cc)
-cond_some false x y e = absurd cc
+use Rattle.hx_grammar.specs.Reading.{binary_of, within, operator_at}
+use Rattle.hx_grammar.proofs.Readings.{cond_some}
 
 -- ---- an operator and its mark
 

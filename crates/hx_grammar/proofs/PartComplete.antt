@@ -1,18 +1,18 @@
 -- Declarations, assignments and the clauses of a `for` that are spelled are read, at any room, or they're too deep.
-use Rattle.std.proofs.Common.{◌≡◌, ℕ, zero, suc, ◌+◌, ◌-◌, ◌<◌, ◌≤◌, max, Bool, true, false, cond, List, [], ◌∷◌, length, Option, Some, None, Result, Ok, Err, ◌⊎◌, inl, inr, refl, sym, ap, subst, ◌∙◌, arith, rules}
+use Rattle.std.proofs.Common.{◌≡◌, ℕ, zero, suc, ◌<◌, ◌≤◌, max, false, List, [], ◌∷◌, length, Option, Some, None, inr, refl, ap, arith}
 use Rattle.hx_tree.specs.declared.token.Pos.{Pos}
 use Rattle.hx_tree.specs.declared.token.Mark.{Mark}
 use Rattle.hx_tree.specs.declared.token.Mark.TheVariants as mark
 use Rattle.hx_tree.specs.declared.tree.Operator.{Operator}
 use Rattle.hx_tree.specs.declared.tree.Operator.TheVariants as op
 use Rattle.hx_tree.specs.Tree.{Name, Expr, LocalDecl, Place, ToVariable, ToElement, Assignment, Set, Update, Increment, Decrement, Init, NoInit, InitLocals, InitAssign, ForClauses}
-use Rattle.hx_tree.specs.Lexis.{Token, NameToken, NumberToken, MarkToken}
+use Rattle.hx_tree.specs.Lexis.{Token, MarkToken}
 use Rattle.hx_tree.specs.Grammar.{The, At, Named, Listed, EachBehindComma, Optional, IsExpr, IsLocal, AreLocals, IsPlace, IsAssignment, IsInit, AreForClauses, Updating, ◌⨾◌}
-use Rattle.hx_tree.specs.Height.{height, greatest, if_there, place_height, assignment_height, locals_height, init_height, head_height}
+use Rattle.hx_tree.specs.Height.{height, if_there, place_height, assignment_height, locals_height, init_height, head_height}
 use Rattle.hx_tree.proofs.Phrases.{expr_shorter}
-use Rattle.hx_grammar.specs.Reading.{Refusal, TooDeep, ◌>>=◌, Reading, Reader, same_mark, behind, expr_at, optional_at, listed, local_turn, local_at, locals_at, place_turn, place_at, updating_of, update_turn, update_at, updated_at, assigned_at, assignment_at, init_turn, init_at, for_clauses_at}
-use Rattle.hx_grammar.proofs.Readings.{behind_here, behind_other, behind_name, the_shorter, named_shorter, Answers, answer, answer_as, answer_at, answer_then, answer_behind, answer_there, answer_absent, answer_name, at_height, node, Ended, Ends, ended}
-use Rattle.hx_grammar.proofs.Lists.{Each, IsRead, BeforeEnd, NoComma, listed_answers}
+use Rattle.hx_grammar.specs.Reading.{same_mark, behind, expr_at, optional_at, local_turn, local_at, locals_at, place_turn, place_at, updating_of, update_turn, update_at, updated_at, assigned_at, assignment_at, init_turn, init_at, for_clauses_at}
+use Rattle.hx_grammar.proofs.Readings.{behind_other, behind_name, the_shorter, named_shorter, Answers, answer, answer_at, answer_then, answer_behind, answer_there, answer_absent, answer_name, at_height, node, Ended, ended}
+use Rattle.hx_grammar.proofs.Lists.{Each, IsRead, BeforeEnd, listed_answers}
 use Rattle.hx_grammar.proofs.ExprComplete.{expr_first, expr_answers, optional_answers}
 
 -- ---- declarations
@@ -24,7 +24,7 @@ local_case x None n from to (a, h, is) end =
     answer_name x from _ h (answer_absent mark.Assign a (local_turn n x a) (rw is (end.initialiser)) (answer_at is))
 local_case x (Some e) n from to (a, h, (b, i, j)) end =
     answer_name x from _ h (answer_there mark.Assign a (local_turn n x a) refl i
-      (at_height (answer_then (expr_at n 10 b) _ (expr_answers e n b to j end) answer) (height e) (omega arith)))
+    (at_height (answer_then (expr_at n 10 b) _ (expr_answers e n b to j end) answer) (height e) (omega arith)))
 
 local_shorter : (x : Name) (i : Option Expr) (from to : List Token) → (Named x ⨾ Optional (λ e. The mark.Assign ⨾ IsExpr e) i) from to → length to < length from
 local_shorter x None from to (a, h, is) = let p = named_shorter x from a h in let q : length a ≡ length to = ap length is in omega arith
@@ -43,7 +43,7 @@ unfolding locals_at
 locals_answers ds zero from mid to is end = record { or_deep = inr (omega arith, refl) }
 locals_answers ds (suc n) from mid to is end =
     node (listed_answers IsLocal n local_height (local_at n) ds (locals_read ds n) from mid is (ended mark.Semicolon mid to (refl, refl, refl, refl) end) (behind_other mark.Comma mark.Semicolon mid to refl end))
-      (locals_height ds) (omega arith)
+    (locals_height ds) (omega arith)
 
 -- no token more than before
 local_length : (ds : List LocalDecl) (from to : List Token) → EachBehindComma IsLocal ds from to → length to ≤ length from
@@ -167,17 +167,17 @@ assign a p h from mid to is index call updates e (suc n) =
 pub assigned : (a : Assignment) (n : ℕ) (from to : List Token) → IsAssignment a from to → Ended to → Assigned a n from to
 assigned (Set p e) n from to (mid, place, (a, h, i)) end =
     assign (Set p e) p (height e) from mid to place (behind_other mark.OpenBracket mark.Assign mid a refl h) (behind_other mark.OpenParen mark.Assign mid a refl h)
-      (λ n. set_case n p e mid a to h (expr_answers e n a to i end)) (omega arith) n
+    (λ n. set_case n p e mid a to h (expr_answers e n a to i end)) (omega arith) n
 assigned (Update p o pos e) n from to (mid, place, (a, h, i)) end =
     let m = update_mark o pos mid a h in
     assign (Update p o pos e) p (height e) from mid to place (behind_other mark.OpenBracket m.sign mid a m.no_index (pos, m.stands)) (behind_other mark.OpenParen m.sign mid a m.no_call (pos, m.stands))
-      (λ n. updated_case n p o pos e mid a to m (expr_answers e n a to i end)) (omega arith) n
+    (λ n. updated_case n p o pos e mid a to m (expr_answers e n a to i end)) (omega arith) n
 assigned (Increment p) n from to (mid, place, h) end =
     assign (Increment p) p 0 from mid to place (behind_other mark.OpenBracket mark.Increment mid to refl h) (behind_other mark.OpenParen mark.Increment mid to refl h)
-      (λ n. increment_case n p mid to h) (omega arith) n
+    (λ n. increment_case n p mid to h) (omega arith) n
 assigned (Decrement p) n from to (mid, place, h) end =
     assign (Decrement p) p 0 from mid to place (behind_other mark.OpenBracket mark.Decrement mid to refl h) (behind_other mark.OpenParen mark.Decrement mid to refl h)
-      (λ n. decrement_case n p mid to h) (omega arith) n
+    (λ n. decrement_case n p mid to h) (omega arith) n
 
 pub assignment_answers : (a : Assignment) (n : ℕ) (from to : List Token) → IsAssignment a from to → Ended to → Answers n (assignment_height a) (assignment_at n from) a to
 unfolding assignment_at
@@ -212,22 +212,22 @@ unfolding init_at
 init_answers NoInit n from mid to is end = answer_there mark.Semicolon from (λ o. init_turn n from o (behind mark.Int from)) refl (rw is end) answer
 init_answers (InitLocals ds) n from mid to (a, h, is) end =
     answer_absent mark.Semicolon from (λ o. init_turn n from o (behind mark.Int from)) (behind_other mark.Semicolon mark.Int from a refl h)
-      (answer_there mark.Int from (init_turn n from None) refl h
-        (at_height (answer_then (locals_at n a) _ (locals_answers ds n a mid to is end) (answer_behind mark.Semicolon mid _ refl end answer)) (locals_height ds) (omega arith)))
+    (answer_there mark.Int from (init_turn n from None) refl h
+    (at_height (answer_then (locals_at n a) _ (locals_answers ds n a mid to is end) (answer_behind mark.Semicolon mid _ refl end answer)) (locals_height ds) (omega arith)))
 init_answers (InitAssign u) n from mid to is end =
     answer_absent mark.Semicolon from (λ o. init_turn n from o (behind mark.Int from)) (assignment_first mark.Semicolon u from mid is)
-      (answer_absent mark.Int from (init_turn n from None) (assignment_first mark.Int u from mid is)
-        (at_height (answer_then (assignment_at n from) _ (assignment_answers u n from mid is (ended mark.Semicolon mid to (refl, refl, refl, refl) end)) (answer_behind mark.Semicolon mid _ refl end answer)) (assignment_height u) (omega arith)))
+    (answer_absent mark.Int from (init_turn n from None) (assignment_first mark.Int u from mid is)
+    (at_height (answer_then (assignment_at n from) _ (assignment_answers u n from mid is (ended mark.Semicolon mid to (refl, refl, refl, refl) end)) (answer_behind mark.Semicolon mid _ refl end answer)) (assignment_height u) (omega arith)))
 
 pub for_clauses_answers : (h : ForClauses) (n : ℕ) (from to : List Token) → AreForClauses h from to → Answers n (head_height h) (for_clauses_at n from) h to
 unfolding for_clauses_at
 for_clauses_answers h n from to (a, open_paren, (b, begins, (c, first, (d, tests, (e, second, (f, steps, close)))))) =
     answer_behind mark.OpenParen from _ refl open_paren
-      (at_height (answer_then (init_at n a) _ (init_answers h.init n a b c begins first)
-        (answer_then (optional_at mark.Semicolon (expr_at n 10) c) _
-          (optional_answers IsExpr mark.Semicolon n height (expr_at n 10) refl (λ x s t i. expr_first mark.Semicolon (refl, refl, refl, refl) x 10 s t i)
-            (λ x s t r i end. expr_answers x n s t i (ended mark.Semicolon t r (refl, refl, refl, refl) end)) h.test c d e tests second)
-          (answer_then (optional_at mark.CloseParen (assignment_at n) e) _
-            (optional_answers IsAssignment mark.CloseParen n assignment_height (assignment_at n) refl (λ x s t i. assignment_first mark.CloseParen x s t i)
-              (λ x s t r i end. assignment_answers x n s t i (ended mark.CloseParen t r (refl, refl, refl, refl) end)) h.step e f to steps close)
-            answer))) (head_height h) (omega arith))
+    (at_height (answer_then (init_at n a) _ (init_answers h.init n a b c begins first)
+    (answer_then (optional_at mark.Semicolon (expr_at n 10) c) _
+    (optional_answers IsExpr mark.Semicolon n height (expr_at n 10) refl (λ x s t i. expr_first mark.Semicolon (refl, refl, refl, refl) x 10 s t i)
+    (λ x s t r i end. expr_answers x n s t i (ended mark.Semicolon t r (refl, refl, refl, refl) end)) h.test c d e tests second)
+    (answer_then (optional_at mark.CloseParen (assignment_at n) e) _
+    (optional_answers IsAssignment mark.CloseParen n assignment_height (assignment_at n) refl (λ x s t i. assignment_first mark.CloseParen x s t i)
+    (λ x s t r i end. assignment_answers x n s t i (ended mark.CloseParen t r (refl, refl, refl, refl) end)) h.step e f to steps close)
+    answer))) (head_height h) (omega arith))

@@ -1,19 +1,17 @@
 -- What a reading yields, and what it answers for a tree that the tokens spell; step by step.
-use Rattle.std.proofs.Common.{◌≡◌, ℕ, zero, suc, ◌+◌, ◌-◌, ◌<◌, ◌≤◌, max, Bool, true, false, cond, List, [], ◌∷◌, length, Option, Some, None, Result, Ok, Err, ◌⊎◌, inl, inr, refl, sym, ap, subst, ◌∙◌, arith, rules}
+use Rattle.std.proofs.Common.{◌≡◌, ℕ, suc, ◌<◌, ◌≤◌, max, Bool, true, false, cond, List, [], ◌∷◌, length, Option, Some, None, Result, Ok, Err, ◌⊎◌, inl, inr, refl, sym, ap, subst, arith, rules}
 use denote.Enum.Bare.{same_true}
 use Rattle.hx_tree.specs.contracts.token.Mark.{the_type}
-use Rattle.hx_tree.specs.declared.token.Pos.{Pos}
 use Rattle.hx_tree.specs.declared.token.Mark.{Mark}
 use Rattle.hx_tree.specs.declared.token.Mark.TheVariants as mark
-use Rattle.hx_tree.specs.declared.tree.BinaryOp.{BinaryOp}
 use Rattle.hx_tree.specs.Tree.{Name}
 use Rattle.hx_tree.specs.Lexis.{Token, NameToken, NumberToken, MarkToken}
-use Rattle.hx_tree.specs.Grammar.{The, At, Named, Numeral}
-use Rattle.hx_grammar.specs.Reading.{Refusal, Syntax, TooDeep, ◌>>=◌, Reading, Reader, same_mark, behind, or_syntax, expect, name_at, number_at, binary_of, operator_at}
+use Rattle.hx_tree.specs.Grammar.{The, Named, Numeral}
+use Rattle.hx_grammar.specs.Reading.{Refusal, TooDeep, ◌>>=◌, Reading, same_mark, behind, or_syntax, expect, name_at, number_at, binary_of, operator_at}
 
 -- ---- marks
 
-cond_some : {X : Type 0} (b : Bool) (x y : X) → cond b (Some x) None ≡ Some y → (b ≡ true) × (x ≡ y)
+pub cond_some : {X : Type 0} (b : Bool) (x y : X) → cond b (Some x) None ≡ Some y → (b ≡ true) × (x ≡ y)
 cond_some true x y e = (refl, cc)
 cond_some false x y e = absurd cc
 
@@ -71,8 +69,10 @@ made_is x y e = cc
 
 pub yields : {X : Type 0} {P : X → List Token → Type 0} {x : X} {to : List Token} → P x to → Yields (Ok (x, to)) P
 yields {X} {P} {x} {to} h =
-    record { of = λ y end e. (let a : X × List Token = (x, to) in let b : X × List Token = (y, end) in
-      subst (λ (z : X × List Token). P z.0 z.1) (made_is a b e) h) }
+    record {
+      of = λ y end e. (let a : X × List Token = (x, to) in let b : X × List Token = (y, end) in
+          subst (λ (z : X × List Token). P z.0 z.1) (made_is a b e) h);
+    }
 
 pub yields_none : {X : Type 0} {P : X → List Token → Type 0} {f : Refusal} → Yields (Err f) P
 yields_none = record { of = λ y end e. absurd cc }

@@ -1,17 +1,16 @@
 -- A statement that is spelled is read, at any room, or it's too deep.
-use Rattle.std.proofs.Common.{◌≡◌, ℕ, zero, suc, ◌+◌, ◌-◌, ◌<◌, ◌≤◌, max, Bool, true, false, cond, List, [], ◌∷◌, length, Option, Some, None, Result, Ok, Err, ◌⊎◌, inl, inr, refl, sym, ap, subst, ◌∙◌, arith, rules}
+use Rattle.std.proofs.Common.{◌≡◌, ℕ, zero, suc, ◌<◌, max, Bool, true, false, cond, List, [], ◌∷◌, Option, None, inr, refl, ap, arith}
 use Rattle.hx_tree.specs.declared.token.Pos.{Pos}
-use Rattle.hx_tree.specs.declared.token.Mark.{Mark}
 use Rattle.hx_tree.specs.declared.token.Mark.TheVariants as mark
-use Rattle.hx_tree.specs.Tree.{Name, Expr, Exprs, exprs, Assignment, LocalDecl, ForClauses, Stmt, Block, Empty, Assign, CallStatement, Print, Emit, If, IfElse, While, For, Break, Continue, Return, Part, Locals, Statement, Parts, no_parts, part_and, parts}
-use Rattle.hx_tree.specs.Lexis.{Token, NameToken, NumberToken, MarkToken}
-use Rattle.hx_tree.specs.Grammar.{The, At, Named, Optional, AreArguments, AreLocals, IsExpr, IsAssignment, AreForClauses, InParens, ends_open, IsStmt, IsPart, AreParts, ◌⨾◌}
-use Rattle.hx_tree.specs.Height.{height, heights, greatest, if_there, assignment_height, locals_height, head_height, stmt_height, part_height, parts_height}
-use Rattle.hx_grammar.specs.Reading.{Refusal, TooDeep, ◌>>=◌, Reading, Reader, behind, expr_at, in_parens_at, optional_at, arguments_at, assigned_at, locals_at, for_clauses_at, until, all_of, part_turn, part_at, parts_at, block_at, named_stmt_turn, named_stmt_at, print_at, emit_at, else_turn, else_at, if_at, while_at, for_at, break_at, continue_at, return_at, marked_stmt_at, stmt_with, stmt_at}
-use Rattle.hx_grammar.proofs.Readings.{behind_here, behind_other, behind_name, Answers, answer, answer_as, answer_at, answer_then, answer_behind, answer_there, answer_absent, at_height, node, Ended, Ends, ended}
+use Rattle.hx_tree.specs.Tree.{Name, Expr, Exprs, Assignment, LocalDecl, ForClauses, Stmt, Block, Empty, Assign, CallStatement, Print, Emit, If, IfElse, While, For, Break, Continue, Return, Part, Locals, Statement, Parts, no_parts, part_and, parts}
+use Rattle.hx_tree.specs.Lexis.{Token, NameToken, MarkToken}
+use Rattle.hx_tree.specs.Grammar.{The, Optional, AreArguments, IsExpr, IsAssignment, AreForClauses, InParens, ends_open, IsStmt, IsPart, AreParts}
+use Rattle.hx_tree.specs.Height.{height, greatest, locals_height, stmt_height, part_height, parts_height}
+use Rattle.hx_grammar.specs.Reading.{behind, expr_at, in_parens_at, optional_at, arguments_at, assigned_at, locals_at, for_clauses_at, part_turn, part_at, parts_at, block_at, named_stmt_turn, named_stmt_at, print_at, emit_at, else_turn, else_at, if_at, while_at, for_at, break_at, continue_at, return_at, marked_stmt_at, stmt_with, stmt_at}
+use Rattle.hx_grammar.proofs.Readings.{behind_other, Answers, answer, answer_as, answer_then, answer_behind, answer_there, answer_absent, at_height, node, Ended, ended}
 use Rattle.hx_grammar.proofs.Lists.{Each, IsRead, OneAfterOther, until_answers}
-use Rattle.hx_grammar.proofs.ExprComplete.{list_of, exprs_list, expr_first, expr_answers, arguments_answers, in_parens_answers, optional_answers}
-use Rattle.hx_grammar.proofs.PartComplete.{locals_answers, Assigned, assigned, for_clauses_answers}
+use Rattle.hx_grammar.proofs.ExprComplete.{exprs_list, expr_first, expr_answers, arguments_answers, in_parens_answers, optional_answers}
+use Rattle.hx_grammar.proofs.PartComplete.{locals_answers, assigned, for_clauses_answers}
 use Rattle.hx_grammar.proofs.StmtShape.{part_shorter, stmt_first, part_first, no_close_begins, no_else_begins, no_int_begins}
 use Rattle.hx_grammar.proofs.StmtSound.{NoElse}
 
@@ -42,16 +41,16 @@ unfolding stmt_with named_stmt_at
 assign_case n u from mid to h i =
     let q = assigned u n from mid h (semicolon mid to i) in
     let begun : Begun n (NameToken q.name ∷ q.rest) (Assign u) to =
-      answer_absent mark.OpenParen q.rest (named_stmt_turn n q.name q.rest) q.no_call
-        (node (answer_then (assigned_at n q.name q.rest) _ q.answers (answer_behind mark.Semicolon mid _ refl i answer)) (stmt_height (Assign u)) (omega arith)) in
+    answer_absent mark.OpenParen q.rest (named_stmt_turn n q.name q.rest) q.no_call
+    (node (answer_then (assigned_at n q.name q.rest) _ q.answers (answer_behind mark.Semicolon mid _ refl i answer)) (stmt_height (Assign u)) (omega arith)) in
     rw (q.begins) begun
 
 call_case : (n : ℕ) (f : Name) (es : Exprs) (a b c d to : List Token) → The mark.OpenParen a b → AreArguments es b c → The mark.CloseParen c d → The mark.Semicolon d to → Begun n (NameToken f ∷ a) (CallStatement f es) to
 unfolding stmt_with named_stmt_at
 call_case n f es a b c d to h i j k =
     answer_there mark.OpenParen a (named_stmt_turn n f a) refl h
-      (node (answer_then (arguments_at (expr_at n) b) _ (arguments_answers es n b c d i j)
-        (answer_behind mark.Semicolon d _ refl k (answer_as (ap (λ (x : Exprs). CallStatement f x) (exprs_list es))))) (stmt_height (CallStatement f es)) (omega arith))
+    (node (answer_then (arguments_at (expr_at n) b) _ (arguments_answers es n b c d i j)
+    (answer_behind mark.Semicolon d _ refl k (answer_as (ap (λ (x : Exprs). CallStatement f x) (exprs_list es))))) (stmt_height (CallStatement f es)) (omega arith))
 
 print_case : (n : ℕ) (p : Pos) (e : Expr) (a b to : List Token) → InParens e a b → The mark.Semicolon b to → Begun n (MarkToken mark.Print p ∷ a) (Print p e) to
 unfolding stmt_with marked_stmt_at print_at
@@ -65,14 +64,14 @@ if_case : (n : ℕ) (p : Pos) (e : Expr) (s : Stmt) (a b to : List Token) → In
 unfolding stmt_with marked_stmt_at if_at else_at
 if_case n p e s a b to h i none =
     node (answer_then (in_parens_at n a) _ (in_parens_answers e n a b h) (answer_then (stmt_at n b) _ i
-      (answer_absent mark.Else to (else_turn (stmt_at n) e s to) none answer))) (stmt_height (If e s)) (omega arith)
+    (answer_absent mark.Else to (else_turn (stmt_at n) e s to) none answer))) (stmt_height (If e s)) (omega arith)
 
 if_else_case : (n : ℕ) (p : Pos) (e : Expr) (s t : Stmt) (a b c d to : List Token) → InParens e a b → Answers n (stmt_height s) (stmt_at n b) s c → The mark.Else c d → Answers n (stmt_height t) (stmt_at n d) t to
     → Begun n (MarkToken mark.If p ∷ a) (IfElse e s t) to
 unfolding stmt_with marked_stmt_at if_at else_at
 if_else_case n p e s t a b c d to h i j k =
     node (answer_then (in_parens_at n a) _ (in_parens_answers e n a b h) (answer_then (stmt_at n b) _ i
-      (answer_there mark.Else c (else_turn (stmt_at n) e s c) refl j (answer_then (stmt_at n d) _ k answer)))) (stmt_height (IfElse e s t)) (omega arith)
+    (answer_there mark.Else c (else_turn (stmt_at n) e s c) refl j (answer_then (stmt_at n d) _ k answer)))) (stmt_height (IfElse e s t)) (omega arith)
 
 while_case : (n : ℕ) (marked : Bool) (p : Pos) (e : Expr) (s : Stmt) (a b to : List Token) → InParens e a b → Answers n (stmt_height s) (stmt_at n b) s to
     → Begun n (MarkToken (cond marked mark.MarkedWhile mark.While) p ∷ a) (While marked e s) to
@@ -98,8 +97,8 @@ return_case : (n : ℕ) (p : Pos) (e : Option Expr) (a b to : List Token) → Op
 unfolding stmt_with marked_stmt_at return_at
 return_case n p e a b to h i =
     node (answer_then (optional_at mark.Semicolon (expr_at n 10) a) _
-      (optional_answers IsExpr mark.Semicolon n height (expr_at n 10) refl (λ x s t i. expr_first mark.Semicolon (refl, refl, refl, refl) x 10 s t i)
-        (λ x s t r i end. expr_answers x n s t i (semicolon t r end)) e a b to h i) answer) (stmt_height (Return p e)) (omega arith)
+    (optional_answers IsExpr mark.Semicolon n height (expr_at n 10) refl (λ x s t i. expr_first mark.Semicolon (refl, refl, refl, refl) x 10 s t i)
+    (λ x s t r i end. expr_answers x n s t i (semicolon t r end)) e a b to h i) answer) (stmt_height (Return p e)) (omega arith)
 
 -- ---- blocks
 
@@ -135,7 +134,7 @@ parts_case : (n : ℕ) (ps : Parts) → PartsRead n ps → (from mid to : List T
 unfolding parts_at
 parts_case n ps each from mid to is end =
     at_height (until_answers BlockPart mark.CloseBrace n part_height (part_at n (stmt_at n)) (list_of_parts ps) each refl
-      (λ p s t h. part_first mark.CloseBrace no_close_begins refl p s t h.0) from mid to (one_after_other ps from mid to is end) end) (parts_height ps) (heights_list ps)
+    (λ p s t h. part_first mark.CloseBrace no_close_begins refl p s t h.0) from mid to (one_after_other ps from mid to is end) end) (parts_height ps) (heights_list ps)
 
 block_case : (n : ℕ) (ps : Parts) → PartsRead n ps → (p : Pos) (a b to : List Token) → AreParts ps a b → The mark.CloseBrace b to → Begun n (MarkToken mark.OpenBrace p ∷ a) (Block ps) to
 unfolding stmt_with marked_stmt_at block_at
@@ -146,13 +145,13 @@ locals_part : (n : ℕ) (ds : List LocalDecl) (from to : List Token) → BlockPa
 unfolding part_at
 locals_part n ds from to ((a, (b, h, i), j), none) =
     answer_there mark.Int from (part_turn n (stmt_at n) from) refl h
-      (at_height (answer_then (locals_at n b) _ (locals_answers ds n b a to i j) (answer_behind mark.Semicolon a _ refl j answer)) (locals_height ds) (omega arith))
+    (at_height (answer_then (locals_at n b) _ (locals_answers ds n b a to i j) (answer_behind mark.Semicolon a _ refl j answer)) (locals_height ds) (omega arith))
 
 stmt_part : (n : ℕ) (s : Stmt) → Complete s → (from to : List Token) → BlockPart (Statement s) from to → Answers n (part_height (Statement s)) (part_at n (stmt_at n) from) (Statement s) to
 unfolding part_at
 stmt_part n s complete from to (h, none) =
     answer_absent mark.Int from (part_turn n (stmt_at n) from) (stmt_first mark.Int no_int_begins s from to h)
-      (at_height (answer_then (stmt_at n from) _ (complete n from to h (λ is_open. none)) answer) (stmt_height s) (omega arith))
+    (at_height (answer_then (stmt_at n from) _ (complete n from to h (λ is_open. none)) answer) (stmt_height s) (omega arith))
 
 -- ---- all of them
 

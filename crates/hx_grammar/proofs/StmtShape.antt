@@ -1,11 +1,11 @@
 -- Statements as phrases: each takes a token, and begins with one of a few.
-use Rattle.std.proofs.Common.{◌≡◌, ℕ, zero, suc, ◌+◌, ◌<◌, ◌≤◌, Bool, true, false, cond, List, [], ◌∷◌, length, Option, Some, None, refl, ap, arith}
+use Rattle.std.proofs.Common.{◌≡◌, ◌<◌, ◌≤◌, true, false, cond, List, length, Option, Some, None, refl, ap, arith}
 use Rattle.hx_tree.specs.declared.token.Pos.{Pos}
 use Rattle.hx_tree.specs.declared.token.Mark.{Mark}
 use Rattle.hx_tree.specs.declared.token.Mark.TheVariants as mark
-use Rattle.hx_tree.specs.Tree.{Name, Expr, Init, NoInit, InitLocals, InitAssign, ForClauses, Stmt, Block, Empty, Assign, CallStatement, Print, Emit, If, IfElse, While, For, Break, Continue, Return, Part, Locals, Statement, Parts, no_parts, part_and}
-use Rattle.hx_tree.specs.Lexis.{Token, NameToken, NumberToken, MarkToken}
-use Rattle.hx_tree.specs.Grammar.{The, At, Optional, IsExpr, IsInit, IsAssignment, AreForClauses, InParens, IsStmt, IsPart, AreParts, ◌⨾◌}
+use Rattle.hx_tree.specs.Tree.{Expr, Init, NoInit, InitLocals, InitAssign, ForClauses, Stmt, Block, Empty, Assign, CallStatement, Print, Emit, If, IfElse, While, For, Break, Continue, Return, Part, Locals, Statement, Parts, no_parts, part_and}
+use Rattle.hx_tree.specs.Lexis.{Token}
+use Rattle.hx_tree.specs.Grammar.{At, Optional, IsExpr, IsInit, IsAssignment, AreForClauses, InParens, IsStmt, IsPart, AreParts}
 use Rattle.hx_tree.proofs.Phrases.{expr_shorter, arguments_shorter}
 use Rattle.hx_grammar.specs.Reading.{same_mark, behind}
 use Rattle.hx_grammar.proofs.Readings.{behind_other, behind_name, the_shorter, named_shorter}

@@ -1,12 +1,12 @@
 -- A statement that is read is spelled so, and no `else` follows that it could have.
-use Rattle.std.proofs.Common.{◌≡◌, ℕ, zero, suc, Bool, true, false, cond, List, [], ◌∷◌, Option, Some, None, Result, Ok, Err, refl, sym, ap, subst, ◌∙◌, arith}
+use Rattle.std.proofs.Common.{◌≡◌, ℕ, zero, suc, Bool, true, false, cond, List, [], ◌∷◌, Option, Some, None, refl}
 use Rattle.hx_tree.specs.declared.token.Pos.{Pos}
 use Rattle.hx_tree.specs.declared.token.Mark.{Mark}
 use Rattle.hx_tree.specs.declared.token.Mark.TheVariants as mark
-use Rattle.hx_tree.specs.Tree.{Name, Expr, exprs, Stmt, Block, Empty, Assign, CallStatement, Print, Emit, If, IfElse, While, For, Break, Continue, Return, Part, Locals, Statement, parts}
+use Rattle.hx_tree.specs.Tree.{Name, Stmt, Part, parts}
 use Rattle.hx_tree.specs.Lexis.{Token, NameToken, NumberToken, MarkToken}
-use Rattle.hx_tree.specs.Grammar.{The, IsExpr, InParens, ends_open, IsStmt, IsPart, AreParts, ◌⨾◌}
-use Rattle.hx_grammar.specs.Reading.{Refusal, TooDeep, ◌>>=◌, Reading, Reader, behind, expr_at, until, part_turn, part_at, parts_at, block_at, named_stmt_turn, named_stmt_at, print_at, emit_at, else_turn, else_at, if_at, while_at, for_at, break_at, continue_at, return_at, marked_stmt_at, stmt_with, stmt_at}
+use Rattle.hx_tree.specs.Grammar.{The, IsExpr, ends_open, IsStmt, IsPart, AreParts, ◌⨾◌}
+use Rattle.hx_grammar.specs.Reading.{Reader, behind, expr_at, part_turn, part_at, parts_at, block_at, named_stmt_turn, named_stmt_at, print_at, emit_at, else_turn, else_at, if_at, while_at, for_at, break_at, continue_at, return_at, marked_stmt_at, stmt_with, stmt_at}
 use Rattle.hx_grammar.proofs.Readings.{behind_here, Yields, yields, yields_none, yields_then, yields_behind, yields_if, yields_more}
 use Rattle.hx_grammar.proofs.Lists.{OneAfterOther, until_yields}
 use Rattle.hx_grammar.proofs.ExprSound.{whole_expr_yields, expr_yields, arguments_yields, in_parens_yields, optional_yields}
@@ -31,8 +31,8 @@ part_yields : (room : ℕ) (below : Reader Stmt) → StmtSound below → (from :
 unfolding part_at
 part_yields room below sound from =
     yields_if mark.Int from (part_turn room below from)
-      (λ a h. yields_then _ _ (locals_yields room a) (λ ds b i. yields_behind _ _ _ (λ to c. yields (b, (a, h, i), c))))
-      (λ none. yields_then _ _ (sound from) (λ s to h. yields (h.0)))
+    (λ a h. yields_then _ _ (locals_yields room a) (λ ds b i. yields_behind _ _ _ (λ to c. yields (b, (a, h, i), c))))
+    (λ none. yields_then _ _ (sound from) (λ s to h. yields (h.0)))
 
 parts_are : (ps : List Part) (from to : List Token) → OneAfterOther IsPart ps from to → AreParts (parts ps) from to
 parts_are [] from to h = h
@@ -53,8 +53,8 @@ named_stmt_yields : (room : ℕ) (x : Name) (from : List Token) → Yields (name
 unfolding named_stmt_at
 named_stmt_yields room x from =
     yields_if mark.OpenParen from (named_stmt_turn room x from)
-      (λ a h. yields_then _ _ (arguments_yields (expr_at room) (expr_yields room) a) (λ es b i. yields_behind _ _ _ (λ to c. yields ((from, refl, (a, h, (i.0, i.1, (b, i.2, c)))), λ e. never e))))
-      (λ none. yields_then _ _ (assigned_yields room x from) (λ u b i. yields_behind _ _ _ (λ to c. yields ((b, i, c), λ e. never e))))
+    (λ a h. yields_then _ _ (arguments_yields (expr_at room) (expr_yields room) a) (λ es b i. yields_behind _ _ _ (λ to c. yields ((from, refl, (a, h, (i.0, i.1, (b, i.2, c)))), λ e. never e))))
+    (λ none. yields_then _ _ (assigned_yields room x from) (λ u b i. yields_behind _ _ _ (λ to c. yields ((b, i, c), λ e. never e))))
 
 print_yields : (room : ℕ) (p : Pos) (from : List Token) → Yields (print_at room p from) (StmtRead (MarkToken mark.Print p ∷ from))
 unfolding print_at
@@ -73,9 +73,9 @@ if_yields : (room : ℕ) (below : Reader Stmt) → StmtSound below → (p : Pos)
 unfolding if_at else_at
 if_yields room below sound p from =
     yields_then _ _ (in_parens_yields room from) (λ v a h. yields_then _ _ (sound a) (λ s b i.
-      yields_if mark.Else b (else_turn below v s b)
-        (λ c j. yields_then _ _ (sound c) (λ t to k. yields ((taken (ends_open s) (behind mark.Else b) c i.1 (behind_here mark.Else b c refl j), (from, (p, refl), (a, h, (b, i.0, (c, j, k.0))))), k.1)))
-        (λ none. yields ((from, (p, refl), (a, h, i.0)), λ e. none))))
+    yields_if mark.Else b (else_turn below v s b)
+    (λ c j. yields_then _ _ (sound c) (λ t to k. yields ((taken (ends_open s) (behind mark.Else b) c i.1 (behind_here mark.Else b c refl j), (from, (p, refl), (a, h, (b, i.0, (c, j, k.0))))), k.1)))
+    (λ none. yields ((from, (p, refl), (a, h, i.0)), λ e. none))))
 
 while_yields : (room : ℕ) (below : Reader Stmt) → StmtSound below → (marked : Bool) (p : Pos) (from : List Token)
     → Yields (while_at room below marked from) (StmtRead (MarkToken (cond marked mark.MarkedWhile mark.While) p ∷ from))
