@@ -21,7 +21,8 @@ constant_yields from =
     (λ a h. yields_then _ _ (yields_number a) (λ n to i. yields (a, h, i)))
     (λ none. yields_then _ _ (yields_number from) (λ n to i. yields (from, refl, i)))
 
-values_are : (cs : List Constant) (from a b c to : List Token) → The mark.Assign from a → The mark.OpenBrace a b → Listed IsConstant cs b c → The mark.CloseBrace c to → AreValues cs from to
+values_are : (cs : List Constant) (from a b c to : List Token) → The mark.Assign from a → The mark.OpenBrace a b → Listed IsConstant cs b c
+    → The mark.CloseBrace c to → AreValues cs from to
 values_are [] from a b c to h i j k = absurd j
 values_are (x ∷ xs) from a b c to h i j k = (a, h, (b, i, (c, j, k)))
 
@@ -45,10 +46,12 @@ global_yields : (from : List Token) → Yields (global_at from) (λ g to. IsGlob
 unfolding global_at
 global_yields from = yields_then _ _ (yields_name from) (λ x a h. yields_then _ _ (shape_yields a) (λ s to i. yields (a, h, i)))
 
-globals_yields : (x : Name) (begin from : List Token) → Named x begin from → Yields (globals_at x from) (λ i to. (all : List Token) → The mark.Int all begin → IsItem i all to)
+globals_yields : (x : Name) (begin from : List Token) → Named x begin from
+    → Yields (globals_at x from) (λ i to. (all : List Token) → The mark.Int all begin → IsItem i all to)
 unfolding globals_at
 globals_yields x begin from named =
-    yields_then _ _ (shape_yields from) (λ s a h. yields_then _ _ (listed_from_yields {P = IsGlobal} _ global_yields _ a) (λ gs b i. yields_behind _ _ _ (λ to c.
+    yields_then _ _ (shape_yields from)
+    (λ s a h. yields_then _ _ (listed_from_yields {P = IsGlobal} _ global_yields _ a) (λ gs b i. yields_behind _ _ _ (λ to c.
     yields (λ all int. rw (i.1) (begin, int, (b, (a, (from, named, h), i.2), c))))))
 
 -- ---- functions
@@ -65,21 +68,25 @@ params_yields from =
     (λ a h. yields_behind _ _ _ (λ to c. yields (a, h, c)))
     (λ none. yields_then _ _ (listed_yields {P = λ x. The mark.Int ⨾ Named x} _ param_yields from) (λ xs a h. yields_behind _ _ _ (λ to c. yields (a, h.0, c)))))
 
-function_yields : (room : ℕ) (r : Returns) (x : Name) (begin a b from : List Token) → The (returns_mark r) begin a → Named x a b → The mark.OpenParen b from
+function_yields : (room : ℕ) (r : Returns) (x : Name) (begin a b from : List Token) → The (returns_mark r) begin a → Named x a b
+    → The mark.OpenParen b from
     → Yields (function_at room r x from) (λ i to. IsItem i begin to)
 unfolding function_at
 function_yields room r x begin a b from h i j =
-    yields_then _ _ (params_yields from) (λ ps c k. yields_behind _ _ _ (λ d l. yields_then _ _ (parts_yields room (stmt_at room) (stmt_yields room) d) (λ body to m.
+    yields_then _ _ (params_yields from)
+    (λ ps c k. yields_behind _ _ _ (λ d l. yields_then _ _ (parts_yields room (stmt_at room) (stmt_yields room) d) (λ body to m.
     yields (a, h, (b, i, (from, j, (k.0, k.1, (c, k.2, (d, l, m)))))))))
 
-int_item_yields : (room : ℕ) (begin from : List Token) → The mark.Int begin from → Yields (int_item_at room from) (λ i to. IsItem i begin to)
+int_item_yields : (room : ℕ) (begin from : List Token) → The mark.Int begin from
+    → Yields (int_item_at room from) (λ i to. IsItem i begin to)
 unfolding int_item_at
 int_item_yields room begin from int =
     yields_then _ _ (yields_name from) (λ x a h. yields_if mark.OpenParen a (int_turn room x a)
     (λ b i. function_yields room returns.Int x begin from a b int h i)
     (λ none. yields_more (λ i to f. f begin int) (globals_yields x from a h)))
 
-void_item_yields : (room : ℕ) (begin from : List Token) → The mark.Void begin from → Yields (void_item_at room from) (λ i to. IsItem i begin to)
+void_item_yields : (room : ℕ) (begin from : List Token) → The mark.Void begin from
+    → Yields (void_item_at room from) (λ i to. IsItem i begin to)
 unfolding void_item_at
 void_item_yields room begin from void =
     yields_then _ _ (yields_name from) (λ x a h. yields_behind _ _ _ (λ b i. function_yields room returns.Void x begin from a b void h i))
@@ -99,7 +106,8 @@ items_are (i ∷ is) from to (a, h, hs) = (a, h, items_are is a to hs)
 abbrev program_of : Reading (List Item) → Result Program Refusal
 program_of read = read >>= λ is. Ok (record { items = is.0 })
 
-program_ok : (tokens : List Token) (p : Program) (read : Reading (List Item)) → Yields read (λ is to. AreItems is tokens []) → program_of read ≡ Ok p → AreItems p.items tokens []
+program_ok : (tokens : List Token) (p : Program) (read : Reading (List Item)) → Yields read (λ is to. AreItems is tokens [])
+    → program_of read ≡ Ok p → AreItems p.items tokens []
 program_ok tokens p (Ok x) h e =
     let q : Program = record { items = x.0 } in
     let qp : q ≡ p = made_is q p e in
@@ -109,4 +117,5 @@ program_ok tokens p (Err f) h e = absurd cc
 pub program_sound : (room : ℕ) (tokens : List Token) (p : Program) → program_at room tokens ≡ Ok p → IsProgram p tokens
 unfolding program_at
 program_sound room tokens p e =
-    program_ok tokens p (all_of until_end (item_at room) tokens) (yields_more (λ is to h. items_are is tokens [] h) (end_yields {P = IsItem} (item_at room) (item_yields room) tokens)) e
+    program_ok tokens p (all_of until_end (item_at room) tokens)
+    (yields_more (λ is to h. items_are is tokens [] h) (end_yields {P = IsItem} (item_at room) (item_yields room) tokens)) e

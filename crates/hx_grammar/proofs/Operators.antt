@@ -100,25 +100,29 @@ operator_is k (MarkToken m q ∷ r) rest o p e =
     (h.1, rw (mo, h.2, h.3) refl)
 
 -- an operator that isn't within j is above it
-within_above : (j k : ℕ) (p q : Pos) (r rest : List Token) (found : Option BinaryOp) (o : BinaryOp) → within j p r found ≡ None → within k p r found ≡ Some (o, q, rest) → j < layer o
+within_above : (j k : ℕ) (p q : Pos) (r rest : List Token) (found : Option BinaryOp) (o : BinaryOp) → within j p r found ≡ None
+    → within k p r found ≡ Some (o, q, rest) → j < layer o
 within_above j k p q r rest None o n e = absurd cc
 within_above j k p q r rest (Some u) o n e =
     let h = within_is k p q r rest (Some u) o e in
     let uo : u ≡ o = cc (h.0) in
     subst (λ (x : BinaryOp). j < layer x) uo (above (nat_le (layer u) j) refl n)
   where
-    above : (b : Bool) → nat_le (layer u) j ≡ b → cond {A = Option (BinaryOp × Pos × List Token)} b (Some (u, p, r)) None ≡ None → j < layer u
+    above : (b : Bool) → nat_le (layer u) j ≡ b → cond {A = Option (BinaryOp × Pos × List Token)} b (Some (u, p, r)) None ≡ None
+        → j < layer u
     above true t e = absurd cc
     above false t e = leb-false (layer u) j t
 
-pub operator_above : (j k : ℕ) (from rest : List Token) (o : BinaryOp) (p : Pos) → operator_at j from ≡ None → operator_at k from ≡ Some (o, p, rest) → j < layer o
+pub operator_above : (j k : ℕ) (from rest : List Token) (o : BinaryOp) (p : Pos) → operator_at j from ≡ None
+    → operator_at k from ≡ Some (o, p, rest) → j < layer o
 unfolding operator_at
 operator_above j k [] rest o p n e = absurd cc
 operator_above j k (NameToken x ∷ r) rest o p n e = absurd cc
 operator_above j k (NumberToken i q ∷ r) rest o p n e = absurd cc
 operator_above j k (MarkToken m q ∷ r) rest o p n e = within_above j k q p r rest (binary_of m) o n e
 
-pub operator_here : (k : ℕ) (o : BinaryOp) (p : Pos) (rest : List Token) → layer o ≤ k → operator_at k (MarkToken (binary_mark o) p ∷ rest) ≡ Some (o, p, rest)
+pub operator_here : (k : ℕ) (o : BinaryOp) (p : Pos) (rest : List Token) → layer o ≤ k
+    → operator_at k (MarkToken (binary_mark o) p ∷ rest) ≡ Some (o, p, rest)
 unfolding operator_at
 operator_here k o p rest le =
     let t : nat_le (layer o) k ≡ true = le-leb (layer o) k le in

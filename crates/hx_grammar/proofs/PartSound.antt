@@ -36,7 +36,8 @@ place_yields room x from =
     (λ a h. yields_then _ _ (whole_expr_yields room a) (λ e b i. yields_behind _ _ _ (λ to c. yields (from, refl, (a, h, (b, i, c))))))
     (λ none. yields refl)
 
-updating_is : (m : Mark) (o : Operator) (pos : Pos) (from : List Token) → updating_of m ≡ Some o → Updating pos o (MarkToken m pos ∷ from) from
+updating_is : (m : Mark) (o : Operator) (pos : Pos) (from : List Token) → updating_of m ≡ Some o
+    → Updating pos o (MarkToken m pos ∷ from) from
 updating_is mark.TimesAssign o pos from e = let h : op.Mul ≡ o = cc in rw (← h) refl
 updating_is mark.DivideAssign o pos from e = let h : op.Div ≡ o = cc in rw (← h) refl
 updating_is mark.RemainderAssign o pos from e = let h : op.Rem ≡ o = cc in rw (← h) refl
@@ -57,12 +58,15 @@ update_turn_yields : (room : ℕ) (p : Place) (m : Mark) (pos : Pos) (begin from
     → Yields (update_turn room p pos from o) (Updated begin p (MarkToken m pos ∷ from))
 update_turn_yields room p m pos begin from None e = yields_none
 update_turn_yields room p m pos begin from (Some o) e =
-    yields_then _ _ (whole_expr_yields room from) (λ v to h. yields (λ place. (MarkToken m pos ∷ from, place, (from, updating_is m o pos from e, h))))
+    yields_then _ _ (whole_expr_yields room from)
+    (λ v to h. yields (λ place. (MarkToken m pos ∷ from, place, (from, updating_is m o pos from e, h))))
 
-update_yields : (room : ℕ) (p : Place) (m : Mark) (pos : Pos) (begin from : List Token) → Yields (update_at room p m pos from) (Updated begin p (MarkToken m pos ∷ from))
+update_yields : (room : ℕ) (p : Place) (m : Mark) (pos : Pos) (begin from : List Token)
+    → Yields (update_at room p m pos from) (Updated begin p (MarkToken m pos ∷ from))
 unfolding update_at
 update_yields room p mark.Assign pos begin from =
-    yields_then _ _ (whole_expr_yields room from) (λ v to h. yields (λ place. (MarkToken mark.Assign pos ∷ from, place, (from, (pos, refl), h))))
+    yields_then _ _ (whole_expr_yields room from)
+    (λ v to h. yields (λ place. (MarkToken mark.Assign pos ∷ from, place, (from, (pos, refl), h))))
 update_yields room p mark.Increment pos begin from = yields (λ place. (MarkToken mark.Increment pos ∷ from, place, (pos, refl)))
 update_yields room p mark.Decrement pos begin from = yields (λ place. (MarkToken mark.Decrement pos ∷ from, place, (pos, refl)))
 update_yields room p m pos begin from = update_turn_yields room p m pos begin from (updating_of m) refl
@@ -74,7 +78,8 @@ updated_yields room p begin (NameToken x ∷ rest) = yields_none
 updated_yields room p begin (NumberToken n pos ∷ rest) = yields_none
 updated_yields room p begin (MarkToken m pos ∷ rest) = update_yields room p m pos begin rest
 
-pub assigned_yields : (room : ℕ) (x : Name) (from : List Token) → Yields (assigned_at room x from) (λ a to. IsAssignment a (NameToken x ∷ from) to)
+pub assigned_yields : (room : ℕ) (x : Name) (from : List Token)
+    → Yields (assigned_at room x from) (λ a to. IsAssignment a (NameToken x ∷ from) to)
 unfolding assigned_at
 assigned_yields zero x from = yields_none
 assigned_yields (suc room) x from =

@@ -27,7 +27,8 @@ never e = absurd cc
 
 -- ---- blocks
 
-part_yields : (room : ℕ) (below : Reader Stmt) → StmtSound below → (from : List Token) → Yields (part_at room below from) (λ p to. IsPart p from to)
+part_yields : (room : ℕ) (below : Reader Stmt) → StmtSound below → (from : List Token)
+    → Yields (part_at room below from) (λ p to. IsPart p from to)
 unfolding part_at
 part_yields room below sound from =
     yields_if mark.Int from (part_turn room below from)
@@ -38,14 +39,18 @@ parts_are : (ps : List Part) (from to : List Token) → OneAfterOther IsPart ps 
 parts_are [] from to h = h
 parts_are (p ∷ ps) from to (a, h, hs) = (a, h, parts_are ps a to hs)
 
-pub parts_yields : (room : ℕ) (below : Reader Stmt) → StmtSound below → (from : List Token) → Yields (parts_at room below from) (λ ps to. (AreParts (parts ps) ⨾ The mark.CloseBrace) from to)
+pub parts_yields : (room : ℕ) (below : Reader Stmt) → StmtSound below → (from : List Token)
+    → Yields (parts_at room below from) (λ ps to. (AreParts (parts ps) ⨾ The mark.CloseBrace) from to)
 unfolding parts_at
 parts_yields room below sound from =
-    yields_more (λ ps to h. (h.0, parts_are ps from h.0 h.1, h.2)) (until_yields {P = IsPart} mark.CloseBrace (part_at room below) (part_yields room below sound) from)
+    yields_more (λ ps to h. (h.0, parts_are ps from h.0 h.1, h.2))
+    (until_yields {P = IsPart} mark.CloseBrace (part_at room below) (part_yields room below sound) from)
 
-block_yields : (room : ℕ) (below : Reader Stmt) → StmtSound below → (p : Pos) (from : List Token) → Yields (block_at room below from) (StmtRead (MarkToken mark.OpenBrace p ∷ from))
+block_yields : (room : ℕ) (below : Reader Stmt) → StmtSound below → (p : Pos) (from : List Token)
+    → Yields (block_at room below from) (StmtRead (MarkToken mark.OpenBrace p ∷ from))
 unfolding block_at
-block_yields room below sound p from = yields_then _ _ (parts_yields room below sound from) (λ ps to h. yields ((from, (p, refl), h), λ e. never e))
+block_yields room below sound p from =
+    yields_then _ _ (parts_yields room below sound from) (λ ps to h. yields ((from, (p, refl), h), λ e. never e))
 
 -- ---- statements by what they begin with
 
@@ -58,18 +63,21 @@ named_stmt_yields room x from =
 
 print_yields : (room : ℕ) (p : Pos) (from : List Token) → Yields (print_at room p from) (StmtRead (MarkToken mark.Print p ∷ from))
 unfolding print_at
-print_yields room p from = yields_then _ _ (in_parens_yields room from) (λ v b h. yields_behind _ _ _ (λ to c. yields ((from, refl, (b, h, c)), λ e. never e)))
+print_yields room p from =
+    yields_then _ _ (in_parens_yields room from) (λ v b h. yields_behind _ _ _ (λ to c. yields ((from, refl, (b, h, c)), λ e. never e)))
 
 emit_yields : (room : ℕ) (p : Pos) (from : List Token) → Yields (emit_at room p from) (StmtRead (MarkToken mark.Emit p ∷ from))
 unfolding emit_at
-emit_yields room p from = yields_then _ _ (in_parens_yields room from) (λ v b h. yields_behind _ _ _ (λ to c. yields ((from, refl, (b, h, c)), λ e. never e)))
+emit_yields room p from =
+    yields_then _ _ (in_parens_yields room from) (λ v b h. yields_behind _ _ _ (λ to c. yields ((from, refl, (b, h, c)), λ e. never e)))
 
 -- a statement before an `else` that it doesn't take
 taken : (b : Bool) (o : Option (List Token)) (rest : List Token) → (b ≡ true → o ≡ None) → o ≡ Some rest → b ≡ false
 taken true o rest f e = let x = f refl in absurd cc
 taken false o rest f e = refl
 
-if_yields : (room : ℕ) (below : Reader Stmt) → StmtSound below → (p : Pos) (from : List Token) → Yields (if_at room below from) (StmtRead (MarkToken mark.If p ∷ from))
+if_yields : (room : ℕ) (below : Reader Stmt) → StmtSound below → (p : Pos) (from : List Token)
+    → Yields (if_at room below from) (StmtRead (MarkToken mark.If p ∷ from))
 unfolding if_at else_at
 if_yields room below sound p from =
     yields_then _ _ (in_parens_yields room from) (λ v a h. yields_then _ _ (sound a) (λ s b i.
@@ -81,13 +89,15 @@ while_yields : (room : ℕ) (below : Reader Stmt) → StmtSound below → (marke
     → Yields (while_at room below marked from) (StmtRead (MarkToken (cond marked mark.MarkedWhile mark.While) p ∷ from))
 unfolding while_at
 while_yields room below sound marked p from =
-    yields_then _ _ (in_parens_yields room from) (λ v a h. yields_then _ _ (sound a) (λ s to i. yields ((from, (p, refl), (a, h, i.0)), i.1)))
+    yields_then _ _ (in_parens_yields room from)
+    (λ v a h. yields_then _ _ (sound a) (λ s to i. yields ((from, (p, refl), (a, h, i.0)), i.1)))
 
 for_yields : (room : ℕ) (below : Reader Stmt) → StmtSound below → (marked : Bool) (p : Pos) (from : List Token)
     → Yields (for_at room below marked from) (StmtRead (MarkToken (cond marked mark.MarkedFor mark.For) p ∷ from))
 unfolding for_at
 for_yields room below sound marked p from =
-    yields_then _ _ (for_clauses_yields room from) (λ v a h. yields_then _ _ (sound a) (λ s to i. yields ((from, (p, refl), (a, h, i.0)), i.1)))
+    yields_then _ _ (for_clauses_yields room from)
+    (λ v a h. yields_then _ _ (sound a) (λ s to i. yields ((from, (p, refl), (a, h, i.0)), i.1)))
 
 break_yields : (p : Pos) (from : List Token) → Yields (break_at p from) (StmtRead (MarkToken mark.Break p ∷ from))
 unfolding break_at
@@ -100,9 +110,11 @@ continue_yields p from = yields_behind _ _ _ (λ to c. yields ((from, refl, c), 
 return_yields : (room : ℕ) (p : Pos) (from : List Token) → Yields (return_at room p from) (StmtRead (MarkToken mark.Return p ∷ from))
 unfolding return_at
 return_yields room p from =
-    yields_then _ _ (optional_yields {P = IsExpr} mark.Semicolon (expr_at room 10) (whole_expr_yields room) from) (λ v to h. yields ((from, refl, h), λ e. never e))
+    yields_then _ _ (optional_yields {P = IsExpr} mark.Semicolon (expr_at room 10) (whole_expr_yields room) from)
+    (λ v to h. yields ((from, refl, h), λ e. never e))
 
-marked_stmt_yields : (room : ℕ) (below : Reader Stmt) → StmtSound below → (m : Mark) (p : Pos) (from : List Token) → Yields (marked_stmt_at room below m p from) (StmtRead (MarkToken m p ∷ from))
+marked_stmt_yields : (room : ℕ) (below : Reader Stmt) → StmtSound below → (m : Mark) (p : Pos) (from : List Token)
+    → Yields (marked_stmt_at room below m p from) (StmtRead (MarkToken m p ∷ from))
 unfolding marked_stmt_at
 marked_stmt_yields room below sound mark.OpenBrace p from = block_yields room below sound p from
 marked_stmt_yields room below sound mark.Semicolon p from = yields ((p, refl), λ e. never e)
@@ -118,7 +130,8 @@ marked_stmt_yields room below sound mark.Continue p from = continue_yields p fro
 marked_stmt_yields room below sound mark.Return p from = return_yields room p from
 marked_stmt_yields room below sound m p from = yields_none
 
-stmt_with_yields : (room : ℕ) (below : Reader Stmt) → StmtSound below → (from : List Token) → Yields (stmt_with room below from) (StmtRead from)
+stmt_with_yields : (room : ℕ) (below : Reader Stmt) → StmtSound below → (from : List Token)
+    → Yields (stmt_with room below from) (StmtRead from)
 unfolding stmt_with
 stmt_with_yields room below sound [] = yields_none
 stmt_with_yields room below sound (NameToken x ∷ rest) = named_stmt_yields room x rest

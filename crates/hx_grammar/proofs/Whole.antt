@@ -14,18 +14,22 @@ refused f = Err f
 
 -- the program is read, or it's too deep
 abbrev pub Again : ℕ → List Token → Program → Type 0
-Again room tokens p = ((program_height p ≤ room + 3) × (program_at room tokens ≡ Ok p)) ⊎ ((room + 3 < program_height p) × (program_at room tokens ≡ Err TooDeep))
+Again room tokens p =
+    ((program_height p ≤ room + 3) × (program_at room tokens ≡ Ok p)) ⊎
+    ((room + 3 < program_height p) × (program_at room tokens ≡ Err TooDeep))
 
 pub again : (room : ℕ) (tokens : List Token) (p : Program) → IsProgram p tokens → Again room tokens p
 again = program_complete
 
 -- ---- programs that are spelled
 
-pub low_is_read : (room : ℕ) (tokens : List Token) (p : Program) → IsProgram p tokens → program_height p ≤ room + 3 → program_at room tokens ≡ Ok p
-low_is_read room tokens p is low = elim (again room tokens p is) [ | inl (fits, h) ↦ h | inr (deep, h) ↦ absurd (omega arith) ]
+pub low_is_read : (room : ℕ) (tokens : List Token) (p : Program) → IsProgram p tokens → program_height p ≤ room + 3
+    → program_at room tokens ≡ Ok p
+low_is_read room tokens p is low = elim (again room tokens p is) [ inl (fits, h) ↦ h | inr (deep, h) ↦ absurd (omega arith) ]
 
-pub high_is_too_deep : (room : ℕ) (tokens : List Token) (p : Program) → IsProgram p tokens → room + 3 < program_height p → program_at room tokens ≡ Err TooDeep
-high_is_too_deep room tokens p is high = elim (again room tokens p is) [ | inl (fits, h) ↦ absurd (omega arith) | inr (deep, h) ↦ h ]
+pub high_is_too_deep : (room : ℕ) (tokens : List Token) (p : Program) → IsProgram p tokens → room + 3 < program_height p
+    → program_at room tokens ≡ Err TooDeep
+high_is_too_deep room tokens p is high = elim (again room tokens p is) [ inl (fits, h) ↦ absurd (omega arith) | inr (deep, h) ↦ h ]
 
 same_program : (room : ℕ) (tokens : List Token) (p q : Program) → program_at room tokens ≡ made p → Again room tokens q → p ≡ q
 same_program room tokens p q e (inl (fits, h)) = made_is p q (sym e ∙ h)
@@ -39,11 +43,13 @@ spells_one_at_most tokens p q is other =
 
 -- ---- answers
 
-fits_room : (room : ℕ) (tokens : List Token) (p : Program) → program_at room tokens ≡ made p → Again room tokens p → program_height p ≤ room + 3
+fits_room : (room : ℕ) (tokens : List Token) (p : Program) → program_at room tokens ≡ made p → Again room tokens p
+    → program_height p ≤ room + 3
 fits_room room tokens p e (inl (fits, h)) = fits
 fits_room room tokens p e (inr (deep, h)) = let x : made p ≡ refused TooDeep = sym e ∙ h in absurd cc
 
-pub found : (room : ℕ) (tokens : List Token) (p : Program) → program_at room tokens ≡ Ok p → IsProgram p tokens × (program_height p ≤ room + 3)
+pub found : (room : ℕ) (tokens : List Token) (p : Program) → program_at room tokens ≡ Ok p
+    → IsProgram p tokens × (program_height p ≤ room + 3)
 found room tokens p e =
     let is = program_sound room tokens p e in
     (is, fits_room room tokens p e (again room tokens p is))
@@ -56,8 +62,10 @@ different e = cc
 
 pub none_spelled : (room : ℕ) (tokens : List Token) → program_at room tokens ≡ Err Syntax → (p : Program) → IsProgram p tokens → ⊥
 none_spelled room tokens e p is =
-    elim (again room tokens p is) [ | inl (fits, h) ↦ (let x : made p ≡ refused Syntax = sym h ∙ e in cc) | inr (deep, h) ↦ different (sym h ∙ e) ]
+    elim
+    (again room tokens p is) [ inl (fits, h) ↦ (let x : made p ≡ refused Syntax = sym h ∙ e in cc) | inr (deep, h) ↦ different (sym h ∙ e) ]
 
-pub none_low : (room : ℕ) (tokens : List Token) → program_at room tokens ≡ Err TooDeep → (p : Program) → IsProgram p tokens → room + 3 < program_height p
+pub none_low : (room : ℕ) (tokens : List Token) → program_at room tokens ≡ Err TooDeep → (p : Program) → IsProgram p tokens
+    → room + 3 < program_height p
 none_low room tokens e p is =
-    elim (again room tokens p is) [ | inl (fits, h) ↦ (let x : made p ≡ refused TooDeep = sym h ∙ e in absurd cc) | inr (deep, h) ↦ deep ]
+    elim (again room tokens p is) [ inl (fits, h) ↦ (let x : made p ≡ refused TooDeep = sym h ∙ e in absurd cc) | inr (deep, h) ↦ deep ]

@@ -8,15 +8,18 @@ use Rattle.hx_grammar.specs.Reading.{Syntax, TooDeep, program_at}
 
 -- what is read is a program that the tokens spell, and not too high
 abbrev pub WhatIsReadIsSpelled : Type 0
-WhatIsReadIsSpelled = (room : ℕ) (tokens : List Token) (p : Program) → program_at room tokens ≡ Ok p → IsProgram p tokens × (program_height p ≤ room + 3)
+WhatIsReadIsSpelled =
+    (room : ℕ) (tokens : List Token) (p : Program) → program_at room tokens ≡ Ok p → IsProgram p tokens × (program_height p ≤ room + 3)
 
 -- a program that the tokens spell, and that isn't too high, is read
 abbrev pub WhatIsSpelledIsRead : Type 0
-WhatIsSpelledIsRead = (room : ℕ) (tokens : List Token) (p : Program) → IsProgram p tokens → program_height p ≤ room + 3 → program_at room tokens ≡ Ok p
+WhatIsSpelledIsRead =
+    (room : ℕ) (tokens : List Token) (p : Program) → IsProgram p tokens → program_height p ≤ room + 3 → program_at room tokens ≡ Ok p
 
 -- one that is higher is refused as that
 abbrev pub HigherIsTooDeep : Type 0
-HigherIsTooDeep = (room : ℕ) (tokens : List Token) (p : Program) → IsProgram p tokens → room + 3 < program_height p → program_at room tokens ≡ Err TooDeep
+HigherIsTooDeep =
+    (room : ℕ) (tokens : List Token) (p : Program) → IsProgram p tokens → room + 3 < program_height p → program_at room tokens ≡ Err TooDeep
 
 -- tokens spell one program at most, of whatever height
 abbrev pub SpellsOneAtMost : Type 0
@@ -28,4 +31,5 @@ SyntaxSpellsNone = (room : ℕ) (tokens : List Token) → program_at room tokens
 
 -- where they're refused as too deep, they spell none that isn't too high
 abbrev pub TooDeepSpellsHigher : Type 0
-TooDeepSpellsHigher = (room : ℕ) (tokens : List Token) → program_at room tokens ≡ Err TooDeep → (p : Program) → IsProgram p tokens → room + 3 < program_height p
+TooDeepSpellsHigher =
+    (room : ℕ) (tokens : List Token) → program_at room tokens ≡ Err TooDeep → (p : Program) → IsProgram p tokens → room + 3 < program_height p
