@@ -1,0 +1,3 @@
+pub mod Marks
+pub mod Loops
+pub mod Steps
