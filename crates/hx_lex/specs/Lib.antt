@@ -1,1 +1,4 @@
+pub mod Spelling
 pub mod View
+pub mod Reading
+pub mod Answer

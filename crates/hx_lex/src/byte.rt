@@ -1,0 +1,52 @@
+// Classes of bytes, and the longest fronts of bytes of one class.
+
+ghost use Rattle.std.specs.Prelude.{◌≡◌, ◌≢◌, ◌<◌, length, slice_index, take_while};
+ghost use Rattle.hx_tree.specs.Lexis as lexis;
+
+/// White space: a tab, a line feed, a carriage return or a blank.
+pub fn is_space(b: u8) -> bool
+    ensures { result ≡ lexis.is_space b }
+{
+    b == b'\t' || b == b'\n' || b == b'\r' || b == b' '
+}
+
+/// What a name begins with (ISO/IEC 9899:2011, 6.4.2.1).
+pub fn is_letter(b: u8) -> bool
+    ensures { result ≡ lexis.is_letter b }
+{
+    (b >= b'a' && b <= b'z') || (b >= b'A' && b <= b'Z') || b == b'_'
+}
+
+pub fn is_digit(b: u8) -> bool
+    ensures { result ≡ lexis.is_digit b }
+{
+    b >= b'0' && b <= b'9'
+}
+
+fn is_word_byte(b: u8) -> bool
+    ensures { result ≡ lexis.is_word_byte b }
+{
+    is_letter(b) || is_digit(b)
+}
+
+/// How many letters, digits and underscores stand in front.
+pub fn word_len(bytes: &[u8]) -> usize
+    ensures { result ≡ length (take_while lexis.is_word_byte bytes.now) }
+{
+    bytes.iter().take_while(|b| is_word_byte(**b)).count()
+}
+
+/// How many bytes stand before the line's end, or the source's.
+pub fn line_len(bytes: &[u8]) -> usize
+    ensures { result ≡ length (take_while lexis.is_in_line bytes.now) }
+{
+    bytes.iter().take_while(|b| **b != b'\n').count()
+}
+
+/// The byte at this index, or 0 behind the end.
+pub fn byte_at(bytes: &[u8], index: usize) -> u8
+    ensures value { result ≡ slice_index bytes.now index }
+    ensures within { result ≢ 0 → index < length bytes.now }
+{
+    if index < bytes.len() { bytes[index] } else { 0 }
+}
