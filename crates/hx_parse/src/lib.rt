@@ -13,3 +13,6 @@ mod statements;
 
 pub use error::ParseError;
 pub use program::parse;
+
+#[cfg(test)]
+mod tests;
