@@ -1,0 +1,13 @@
+pub mod Readings
+pub mod Lists
+pub mod Operators
+pub mod ExprSound
+pub mod PartSound
+pub mod StmtSound
+pub mod ItemSound
+pub mod ExprComplete
+pub mod PartComplete
+pub mod StmtShape
+pub mod StmtComplete
+pub mod ItemComplete
+pub mod Whole
