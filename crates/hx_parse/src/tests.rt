@@ -2,7 +2,7 @@
 
 use crate::{ParseError, parse};
 use hx_lex::tokens;
-use hx_tree::tree::{Expr, Item, Part, Program, Stmt};
+use hx_tree::tree::{Item, Part, Program, Stmt};
 use std::alloc::{AllocError, Global};
 use std::test::Fail;
 
@@ -130,4 +130,112 @@ fn faults_have_their_places(rt: HostRuntime) {
     for (source, number, line, col) in rows {
         assert_eq!(rt; answer(rt.alloc(), source.as_bytes()), (number, line, col), "{source}");
     }
+}
+
+/// A program with each construct of the language.
+const EACH: &str = "int g = -1, a[3] = {1, -2}, b;
+void p(void) {}
+int f(int x, int y) {
+    int z, w = x * (y - 2) / 3 % 4;
+    ; z = ~x << 1 >> 2; a[z] += !w; a[0]++; z--; f(z, a[1]); p();
+    if (x < y && x <= 1 || y > 2) print(x); else emit(f(1, 2));
+    while (x != 1) { break; }
+    pwhile (x == 2) continue;
+    for (int i = 0, j; i >= 1; i++) return x ^ y | z & w;
+    for (z = -1; ; ) if (z) ;
+    pfor (;;) return;
+}";
+
+#[test]
+fn fronts_end_too_soon(rt: HostRuntime) -> Result<(), Fail> {
+    let all = tokens(rt.alloc(), EACH.as_bytes())?;
+    assert_eq!(rt; told(parse(rt.alloc(), all.as_slice())), (0, 0, 0));
+    let mut whole = 0u32;
+    let mut front = Vec::new(rt.alloc());
+    let mut behind = (0, 1, 1);
+    for token in all.as_slice() {
+        let found = told(parse(rt.alloc(), front.as_slice()));
+        if found == (0, 0, 0) {
+            whole = whole.saturating_add(1);
+        } else {
+            assert_eq!(rt; found, behind);
+        }
+        front.push(*token)?;
+        let length = u32::try_from(token.text.len())?;
+        behind = (10, token.pos.line, token.pos.col.saturating_add(length));
+    }
+    assert_eq!(rt; whole, 3, "nothing, the globals, and these with p");
+    Ok(())
+}
+
+#[test]
+fn an_else_goes_to_the_nearest_if(rt: HostRuntime) -> Result<(), Fail> {
+    let all = tokens(rt.alloc(), "int main(){ if (1) while (2) if (3) ; else ; }".as_bytes())?;
+    let mut nearest = false;
+    match parse(rt.alloc(), all.as_slice())?.items.pop() {
+        Some(Item::Function(mut main)) => match main.body.pop() {
+            Some(Part::Stmt(Stmt::If(_, body))) => match Box::into_inner(body) {
+                Stmt::While(false, _, inner) => match Box::into_inner(inner) {
+                    Stmt::IfElse(_, _, _) => nearest = true,
+                    _ => {}
+                },
+                _ => {}
+            },
+            _ => {}
+        },
+        _ => {}
+    }
+    assert!(rt; nearest);
+    Ok(())
+}
+
+#[test]
+fn the_height_has_a_limit(rt: HostRuntime) -> Result<(), Fail> {
+    // The program, the function, its body and the statement stand above the expression, which has a node for each pair and one.
+    assert_eq!(rt; answer(rt.alloc(), in_parentheses(rt.alloc(), 195)?.as_slice()), (0, 0, 0));
+    assert_eq!(rt; answer(rt.alloc(), in_parentheses(rt.alloc(), 196)?.as_slice()), (11, 0, 0));
+    // A sum of so many numbers has a node for each.
+    let sum = nested(rt.alloc(), "int main(){ print(1", "+1", 195, "); }")?;
+    assert_eq!(rt; answer(rt.alloc(), sum.as_slice()), (0, 0, 0));
+    let sum = nested(rt.alloc(), "int main(){ print(1", "+1", 196, "); }")?;
+    assert_eq!(rt; answer(rt.alloc(), sum.as_slice()), (11, 0, 0));
+    // Blocks in the body of a function, which has height 3 with the function and the program.
+    assert_eq!(rt; answer(rt.alloc(), in_blocks(rt.alloc(), 197)?.as_slice()), (0, 0, 0));
+    assert_eq!(rt; answer(rt.alloc(), in_blocks(rt.alloc(), 198)?.as_slice()), (11, 0, 0));
+    // A list is no higher than its highest member.
+    let list = nested(rt.alloc(), "int main(){ f(1", ", 1", 1000, "); }")?;
+    assert_eq!(rt; answer(rt.alloc(), list.as_slice()), (0, 0, 0));
+    Ok(())
+}
+
+#[test]
+fn a_fault_behind_the_highest_tree_is_one_of_syntax(rt: HostRuntime) -> Result<(), Fail> {
+    // 197 blocks could still end here; with one more they could not, and a fault behind them may be told or not.
+    let blocks = nested(rt.alloc(), "int main(){ ", "{", 197, ")")?;
+    assert_eq!(rt; answer(rt.alloc(), blocks.as_slice()), (10, 1, 210));
+    let calls = nested(rt.alloc(), "int main(){ ", "{", 196, "f;")?;
+    assert_eq!(rt; answer(rt.alloc(), calls.as_slice()), (10, 1, 210));
+    let pairs = nested(rt.alloc(), "int main(){ print(", "(", 195, ";")?;
+    assert_eq!(rt; answer(rt.alloc(), pairs.as_slice()), (10, 1, 214));
+    Ok(())
+}
+
+#[test]
+fn deep_sources_end_in_a_refusal(rt: HostRuntime) -> Result<(), Fail> {
+    let pairs = nested(rt.alloc(), "int main(){ print(", "(", 30000, "")?;
+    assert_eq!(rt; answer(rt.alloc(), pairs.as_slice()), (11, 0, 0));
+    let blocks = nested(rt.alloc(), "int main()", "{", 65000, "")?;
+    assert_eq!(rt; answer(rt.alloc(), blocks.as_slice()), (11, 0, 0));
+    let signs = nested(rt.alloc(), "int main(){ print(", "- ", 30000, "")?;
+    assert_eq!(rt; answer(rt.alloc(), signs.as_slice()), (11, 0, 0));
+    let ifs = nested(rt.alloc(), "int main(){ ", "if (1) ", 9000, "")?;
+    assert_eq!(rt; answer(rt.alloc(), ifs.as_slice()), (11, 0, 0));
+    Ok(())
+}
+
+#[test]
+fn refusals_have_numbers(rt: HostRuntime) {
+    assert_eq!(rt; ParseError::TooDeep.number(), 11);
+    assert_eq!(rt; ParseError::Memory.number(), 12);
+    assert_eq!(rt; ParseError::Memory.pos(), None);
 }
