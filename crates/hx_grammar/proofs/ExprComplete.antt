@@ -1,5 +1,5 @@
 -- An expression that is spelled is read, at any room, or it's too deep.
-use Rattle.std.proofs.Common.{◌≡◌, ℕ, zero, suc, ◌+◌, ◌-◌, ◌<◌, ◌≤◌, max, Bool, true, false, cond, List, [], ◌∷◌, length, Option, Some, None, Result, Ok, Err, ◌⊎◌, inl, inr, refl, sym, ap, subst, ◌∙◌, arith, rules}
+use Rattle.std.proofs.Common.{◌≡◌, ℕ, zero, suc, ◌+◌, ◌-◌, ◌<◌, ◌≤◌, max, Bool, true, false, List, [], ◌∷◌, Option, Some, None, Ok, Err, ◌⊎◌, inl, inr, refl, sym, ap, subst, ◌∙◌, arith, rules}
 use Rattle.std.proofs.lemmas.Bool.{lt-ltb, le-ltb, cases_lt}
 use Rattle.std.specs.Prelude.{nat_lt}
 use denote.Enum.Bare.{same_true}
@@ -12,13 +12,13 @@ use Rattle.hx_tree.specs.declared.tree.UnaryOp.TheVariants as unary
 use Rattle.hx_tree.specs.declared.tree.BinaryOp.{BinaryOp}
 use Rattle.hx_tree.specs.Tree.{Name, Expr, Number, Variable, Element, Call, Paren, Unary, Binary, Exprs, no_exprs, expr_and, exprs}
 use Rattle.hx_tree.specs.Lexis.{Token, NameToken, NumberToken, MarkToken}
-use Rattle.hx_tree.specs.Grammar.{The, At, Named, IsExprOf, IsExpr, InParens, AreArguments, AreMoreArguments, Listed, EachBehindComma, Optional, layer, binary_mark, unary_mark, ◌⨾◌}
+use Rattle.hx_tree.specs.Grammar.{The, IsExprOf, IsExpr, InParens, AreArguments, AreMoreArguments, EachBehindComma, Optional, layer, binary_mark, unary_mark}
 use Rattle.hx_tree.specs.Height.{height, heights, greatest, if_there}
 use Rattle.hx_tree.proofs.Phrases.{weaken, expr_shorter}
-use Rattle.hx_grammar.specs.Reading.{Refusal, TooDeep, ◌>>=◌, Reading, Reader, same_mark, behind, binary_of, operator_at, Below, arguments_turn, arguments_at, name_turn, named_at, unary_at, marked_at, operand_at, chain_turn, chain, expr_at, in_parens_at, optional_turn, optional_at, listed}
-use Rattle.hx_grammar.proofs.Readings.{behind_here, behind_other, behind_name, behind_number, Answers, answer, answer_as, answer_then, answer_behind, answer_there, answer_absent, at_height, node, Ended, Ends, ended}
+use Rattle.hx_grammar.specs.Reading.{TooDeep, Reader, same_mark, behind, binary_of, operator_at, Below, arguments_turn, arguments_at, name_turn, named_at, unary_at, marked_at, operand_at, chain, expr_at, in_parens_at, optional_turn, optional_at, listed}
+use Rattle.hx_grammar.proofs.Readings.{behind_other, behind_name, behind_number, Answers, answer, answer_as, answer_then, answer_behind, answer_there, answer_absent, at_height, node, Ended, ended}
 use Rattle.hx_grammar.proofs.Lists.{Each, IsRead, BeforeEnd, listed_answers}
-use Rattle.hx_grammar.proofs.Operators.{mark_of, layer_pos, operator_is, operator_here, Above, above_operator, no_operator}
+use Rattle.hx_grammar.proofs.Operators.{mark_of, layer_pos, operator_here, Above, above_operator, no_operator}
 
 -- ---- what follows an expression
 
@@ -48,7 +48,8 @@ top_within (Unary o e) k from to h = omega arith
 top_within (Binary o p l r) k from to h = h.0
 
 stops_less : (i j : ℕ) (to : List Token) → i ≤ j → Stops j to → Stops i to
-stops_less i j to le s = record { operators = λ k o p rest f. (let x = s.operators k o p rest f in omega arith); index = s.index; arguments = s.arguments }
+stops_less i j to le s =
+    record { operators = λ k o p rest f. (let x = s.operators k o p rest f in omega arith); index = s.index; arguments = s.arguments }
 
 stops_ended : (j : ℕ) (to : List Token) → Ended to → Stops j to
 stops_ended j to e = record { operators = λ k o p rest f. (let x = e.operators k in absurd cc); index = e.index; arguments = e.arguments }
@@ -92,7 +93,8 @@ height_pos (Paren e) = omega arith
 height_pos (Unary o e) = omega arith
 height_pos (Binary o p l r) = omega arith
 
-chain_ends : (below : Below) (fuel room k : ℕ) (left : Expr) (from : List Token) → operator_at k from ≡ None → chain below fuel room k left from ≡ Ok (left, from)
+chain_ends : (below : Below) (fuel room k : ℕ) (left : Expr) (from : List Token) → operator_at k from ≡ None
+    → chain below fuel room k left from ≡ Ok (left, from)
 unfolding chain
 chain_ends below zero room k left from none = rw none refl
 chain_ends below (suc fuel) room k left from none = rw none refl
@@ -101,23 +103,29 @@ no_room : (k : ℕ) (from : List Token) → expr_at 0 k from ≡ Err TooDeep
 unfolding expr_at
 no_room k from = refl
 
-closed : (e : Expr) → Complete e → (n k : ℕ) (from to : List Token) → IsExprOf k e from to → Stops (top e) to → operator_at k to ≡ None → Answers n (height e) (expr_at n k from) e to
+closed : (e : Expr) → Complete e → (n k : ℕ) (from to : List Token) → IsExprOf k e from to → Stops (top e) to → operator_at k to ≡ None
+    → Answers n (height e) (expr_at n k from) e to
 closed e complete zero k from to is stops none = record { or_deep = inr (height_pos e, no_room k from) }
 closed e complete (suc n) k from to is stops none =
-    record { or_deep = elim (complete n k from to is stops) [
-      | inl (fuel, enough, small, h) ↦ inl (small, h ∙ chain_ends (expr_at n) fuel (suc n) k e to none)
-      | inr (deep, h) ↦ inr (deep, h)
-    ] }
+    record {
+      or_deep = elim (complete n k from to is stops) [
+        | inl (fuel, enough, small, h) ↦ inl (small, h ∙ chain_ends (expr_at n) fuel (suc n) k e to none)
+        | inr (deep, h) ↦ inr (deep, h)
+      ];
+    }
 
 -- an expression of all layers, before what ends it
-before_end : (e : Expr) → Complete e → (n : ℕ) (from to : List Token) → IsExpr e from to → Ended to → Answers n (height e) (expr_at n 10 from) e to
+before_end : (e : Expr) → Complete e → (n : ℕ) (from to : List Token) → IsExpr e from to → Ended to
+    → Answers n (height e) (expr_at n 10 from) e to
 before_end e complete n from to is end = closed e complete n 10 from to is (stops_ended (top e) to end) (end.operators 10)
 
 is_read : (e : Expr) → Complete e → (n : ℕ) → IsRead n height (expr_at n 10) (BeforeEnd IsExpr) e
-is_read e complete n = record { answers = λ from to h. before_end e complete n from to h.0 h.1; shorter = λ from to h. expr_shorter e 10 from to h.0 }
+is_read e complete n =
+    record { answers = λ from to h. before_end e complete n from to h.0 h.1; shorter = λ from to h. expr_shorter e 10 from to h.0 }
 
 -- an operand is read as an expression of each layer
-operand : (n k : ℕ) (e : Expr) (from to : List Token) → 1 ≤ height e → Answers (suc n) (height e) (operand_at (expr_at n) from) e to → Goes n k e from to
+operand : (n k : ℕ) (e : Expr) (from to : List Token) → 1 ≤ height e → Answers (suc n) (height e) (operand_at (expr_at n) from) e to
+    → Goes n k e from to
 unfolding expr_at
 operand n k e from to pos a =
     elim (a.or_deep) [
@@ -142,7 +150,8 @@ bin_deep below fuel room k left o p rest le high = go fuel
     go zero = rw (at, above) refl
     go (suc m) = rw (at, above) refl
 
-bin_right_deep : (below : Below) (fuel room k : ℕ) (left : Expr) (o : BinaryOp) (p : Pos) (rest : List Token) → layer o ≤ k → height left < room → below (layer o - 1) rest ≡ Err TooDeep
+bin_right_deep : (below : Below) (fuel room k : ℕ) (left : Expr) (o : BinaryOp) (p : Pos) (rest : List Token) → layer o ≤ k
+    → height left < room → below (layer o - 1) rest ≡ Err TooDeep
     → chain below fuel room k left (MarkToken (binary_mark o) p ∷ rest) ≡ Err TooDeep
 unfolding chain
 bin_right_deep below fuel room k left o p rest le low h = go fuel
@@ -157,7 +166,8 @@ bin_right_deep below fuel room k left o p rest le low h = go fuel
     go zero = rw (at, fits, h) refl
     go (suc m) = rw (at, fits, h) refl
 
-bin_goes : (below : Below) (fuel room k : ℕ) (left right : Expr) (o : BinaryOp) (p : Pos) (rest to : List Token) → layer o ≤ k → height left < room → below (layer o - 1) rest ≡ Ok (right, to)
+bin_goes : (below : Below) (fuel room k : ℕ) (left right : Expr) (o : BinaryOp) (p : Pos) (rest to : List Token) → layer o ≤ k
+    → height left < room → below (layer o - 1) rest ≡ Ok (right, to)
     → chain below (suc fuel) room k left (MarkToken (binary_mark o) p ∷ rest) ≡ chain below fuel room k (Binary o p left right) to
 unfolding chain
 bin_goes below fuel room k left right o p rest to le low h =
@@ -165,18 +175,21 @@ bin_goes below fuel room k left right o p rest to le low h =
     let fits : nat_lt (height left) room ≡ true = lt-ltb (height left) room low in
     rw (at, fits, h) refl
 
-bin_case : (n k : ℕ) (o : BinaryOp) (p : Pos) (l r : Expr) (from b to : List Token) → layer o ≤ k → Goes n k l from (MarkToken (binary_mark o) p ∷ b)
+bin_case : (n k : ℕ) (o : BinaryOp) (p : Pos) (l r : Expr) (from b to : List Token) → layer o ≤ k
+    → Goes n k l from (MarkToken (binary_mark o) p ∷ b)
     → Answers n (height r) (expr_at n (layer o - 1) b) r to → Goes n k (Binary o p l r) from to
 bin_case n k o p l r from b to le (inr (deep, h)) right = inr (omega arith, h)
 bin_case n k o p l r from b to le (inl (fuel, enough, small, h)) right = go fuel enough h (right.or_deep) (cases_lt (height l) (suc n))
   where
-    go : (fuel : ℕ) → suc n ≤ fuel + height l → expr_at (suc n) k from ≡ chain (expr_at n) fuel (suc n) k l (MarkToken (binary_mark o) p ∷ b)
+    go : (fuel : ℕ) → suc n ≤ fuel + height l
+        → expr_at (suc n) k from ≡ chain (expr_at n) fuel (suc n) k l (MarkToken (binary_mark o) p ∷ b)
         → ((height r ≤ n) × (expr_at n (layer o - 1) b ≡ Ok (r, to))) ⊎ ((n < height r) × (expr_at n (layer o - 1) b ≡ Err TooDeep))
         → (height l < suc n) ⊎ (suc n ≤ height l) → Goes n k (Binary o p l r) from to
     go fuel enough h right (inr high) = inr (omega arith, h ∙ bin_deep (expr_at n) fuel (suc n) k l o p b le high)
     go fuel enough h (inr (deep, d)) (inl low) = inr (omega arith, h ∙ bin_right_deep (expr_at n) fuel (suc n) k l o p b le low d)
     go zero enough h (inl (ok, d)) (inl low) = absurd (omega arith)
-    go (suc m) enough h (inl (ok, d)) (inl low) = inl (m, omega arith, omega arith, h ∙ bin_goes (expr_at n) m (suc n) k l r o p b to le low d)
+    go (suc m) enough h (inl (ok, d)) (inl low) = inl
+        (m, omega arith, omega arith, h ∙ bin_goes (expr_at n) m (suc n) k l r o p b to le low d)
 
 -- ---- arguments
 
@@ -198,7 +211,9 @@ more_listed (expr_and e es) from to (a, h, (b, i, j)) = (a, h, (b, i, more_liste
 
 -- no expression begins with such a mark
 abbrev pub NotFirst : Mark → Type 0
-NotFirst m = (same_mark mark.OpenParen m ≡ false) × (same_mark mark.Minus m ≡ false) × (same_mark mark.Tilde m ≡ false) × (same_mark mark.Exclamation m ≡ false)
+NotFirst m =
+    (same_mark mark.OpenParen m ≡ false) × (same_mark mark.Minus m ≡ false) × (same_mark mark.Tilde m ≡ false) ×
+    (same_mark mark.Exclamation m ≡ false)
 
 pub expr_first : (m : Mark) → NotFirst m → (e : Expr) (k : ℕ) (from to : List Token) → IsExprOf k e from to → behind m from ≡ None
 expr_first m other (Number n) k from to h = behind_number m n from to h
@@ -221,10 +236,10 @@ arguments_case n no_exprs each from mid to is end =
     answer_there mark.CloseParen from (arguments_turn (expr_at n) from) refl (rw is end) answer
 arguments_case n (expr_and e es) each from mid to (a, h, i) end =
     answer_absent mark.CloseParen from (arguments_turn (expr_at n) from) (expr_first mark.CloseParen (refl, refl, refl, refl) e 10 from a h)
-      (at_height (answer_then (listed (expr_at n 10) from) _
-        (listed_answers IsExpr n height (expr_at n 10) (e ∷ list_of es) each from mid (a, h, more_listed es a mid i) (ended mark.CloseParen mid to (refl, refl, refl, refl) end)
-          (behind_other mark.Comma mark.CloseParen mid to refl end))
-        (answer_behind mark.CloseParen mid _ refl end answer)) (heights (expr_and e es)) (let x = heights_list es in omega arith))
+    (at_height (answer_then (listed (expr_at n 10) from) _
+    (listed_answers IsExpr n height (expr_at n 10) (e ∷ list_of es) each from mid (a, h, more_listed es a mid i) (ended mark.CloseParen mid to (refl, refl, refl, refl) end)
+    (behind_other mark.Comma mark.CloseParen mid to refl end))
+    (answer_behind mark.CloseParen mid _ refl end answer)) (heights (expr_and e es)) (let x = heights_list es in omega arith))
 
 -- ---- operands
 
@@ -236,38 +251,45 @@ variable_case : (n k : ℕ) (x : Name) (to : List Token) → Stops 0 to → Goes
 unfolding operand_at named_at
 variable_case n k x to stops =
     operand n k (Variable x) (NameToken x ∷ to) to (omega arith)
-      (answer_absent mark.OpenBracket to (λ o. name_turn (expr_at n) x to o (behind mark.OpenParen to)) stops.index
-        (answer_absent mark.OpenParen to (name_turn (expr_at n) x to None) stops.arguments (node answer 1 refl)))
+    (answer_absent mark.OpenBracket to (λ o. name_turn (expr_at n) x to o (behind mark.OpenParen to)) stops.index
+    (answer_absent mark.OpenParen to (name_turn (expr_at n) x to None) stops.arguments (node answer 1 refl)))
 
-element_case : (n k : ℕ) (x : Name) (e : Expr) (a b c to : List Token) → The mark.OpenBracket a b → Answers n (height e) (expr_at n 10 b) e c → The mark.CloseBracket c to → Goes n k (Element x e) (NameToken x ∷ a) to
+element_case : (n k : ℕ) (x : Name) (e : Expr) (a b c to : List Token) → The mark.OpenBracket a b
+    → Answers n (height e) (expr_at n 10 b) e c → The mark.CloseBracket c to → Goes n k (Element x e) (NameToken x ∷ a) to
 unfolding operand_at named_at
 element_case n k x e a b c to h i j =
     operand n k (Element x e) (NameToken x ∷ a) to (omega arith)
-      (answer_there mark.OpenBracket a (λ o. name_turn (expr_at n) x a o (behind mark.OpenParen a)) refl h
-        (node (answer_then (expr_at n 10 b) _ i (answer_behind mark.CloseBracket c _ refl j answer)) (height (Element x e)) (omega arith)))
+    (answer_there mark.OpenBracket a (λ o. name_turn (expr_at n) x a o (behind mark.OpenParen a)) refl h
+    (node (answer_then (expr_at n 10 b) _ i (answer_behind mark.CloseBracket c _ refl j answer)) (height (Element x e)) (omega arith)))
 
-call_case : (n k : ℕ) (f : Name) (es : Exprs) (a b to : List Token) → The mark.OpenParen a b → Answers n (heights es) (arguments_at (expr_at n) b) (list_of es) to → Goes n k (Call f es) (NameToken f ∷ a) to
+call_case : (n k : ℕ) (f : Name) (es : Exprs) (a b to : List Token) → The mark.OpenParen a b
+    → Answers n (heights es) (arguments_at (expr_at n) b) (list_of es) to → Goes n k (Call f es) (NameToken f ∷ a) to
 unfolding operand_at named_at
 call_case n k f es a b to h i =
     operand n k (Call f es) (NameToken f ∷ a) to (omega arith)
-      (answer_absent mark.OpenBracket a (λ o. name_turn (expr_at n) f a o (behind mark.OpenParen a)) (behind_other mark.OpenBracket mark.OpenParen a b refl h)
-        (answer_there mark.OpenParen a (name_turn (expr_at n) f a None) refl h
-          (node (answer_then (arguments_at (expr_at n) b) _ i (answer_as (ap (λ (x : Exprs). Call f x) (exprs_list es)))) (height (Call f es)) (omega arith))))
+    (answer_absent mark.OpenBracket a (λ o. name_turn (expr_at n) f a o (behind mark.OpenParen a)) (behind_other mark.OpenBracket mark.OpenParen a b refl h)
+    (answer_there mark.OpenParen a (name_turn (expr_at n) f a None) refl h
+    (node (answer_then (arguments_at (expr_at n) b) _ i (answer_as (ap (λ (x : Exprs). Call f x) (exprs_list es)))) (height (Call f es)) (omega arith))))
 
-paren_case : (n k : ℕ) (e : Expr) (p : Pos) (a b to : List Token) → Answers n (height e) (expr_at n 10 a) e b → The mark.CloseParen b to → Goes n k (Paren e) (MarkToken mark.OpenParen p ∷ a) to
+paren_case : (n k : ℕ) (e : Expr) (p : Pos) (a b to : List Token) → Answers n (height e) (expr_at n 10 a) e b → The mark.CloseParen b to
+    → Goes n k (Paren e) (MarkToken mark.OpenParen p ∷ a) to
 unfolding operand_at marked_at
 paren_case n k e p a b to h i =
     operand n k (Paren e) (MarkToken mark.OpenParen p ∷ a) to (omega arith)
-      (node (answer_then (expr_at n 10 a) _ h (answer_behind mark.CloseParen b _ refl i answer)) (height (Paren e)) (omega arith))
+    (node (answer_then (expr_at n 10 a) _ h (answer_behind mark.CloseParen b _ refl i answer)) (height (Paren e)) (omega arith))
 
-unary_case : (n k : ℕ) (o : UnaryOp) (e : Expr) (p : Pos) (a to : List Token) → Answers n (height e) (expr_at n 0 a) e to → Goes n k (Unary o e) (MarkToken (unary_mark o) p ∷ a) to
+unary_case : (n k : ℕ) (o : UnaryOp) (e : Expr) (p : Pos) (a to : List Token) → Answers n (height e) (expr_at n 0 a) e to
+    → Goes n k (Unary o e) (MarkToken (unary_mark o) p ∷ a) to
 unfolding operand_at marked_at unary_at
 unary_case n k unary.Negate e p a to h =
-    operand n k (Unary unary.Negate e) (MarkToken mark.Minus p ∷ a) to (omega arith) (node (answer_then (expr_at n 0 a) _ h answer) (height (Unary unary.Negate e)) (omega arith))
+    operand n k (Unary unary.Negate e) (MarkToken mark.Minus p ∷ a) to (omega arith)
+    (node (answer_then (expr_at n 0 a) _ h answer) (height (Unary unary.Negate e)) (omega arith))
 unary_case n k unary.Invert e p a to h =
-    operand n k (Unary unary.Invert e) (MarkToken mark.Tilde p ∷ a) to (omega arith) (node (answer_then (expr_at n 0 a) _ h answer) (height (Unary unary.Invert e)) (omega arith))
+    operand n k (Unary unary.Invert e) (MarkToken mark.Tilde p ∷ a) to (omega arith)
+    (node (answer_then (expr_at n 0 a) _ h answer) (height (Unary unary.Invert e)) (omega arith))
 unary_case n k unary.Not e p a to h =
-    operand n k (Unary unary.Not e) (MarkToken mark.Exclamation p ∷ a) to (omega arith) (node (answer_then (expr_at n 0 a) _ h answer) (height (Unary unary.Not e)) (omega arith))
+    operand n k (Unary unary.Not e) (MarkToken mark.Exclamation p ∷ a) to (omega arith)
+    (node (answer_then (expr_at n 0 a) _ h answer) (height (Unary unary.Not e)) (omega arith))
 
 -- ---- all of them
 
@@ -282,13 +304,15 @@ mutual
   complete (Paren e) n k from to (a, h, (b, i, l)) stops =
       rw h.1 (paren_case n k e h.0 a b to (before_end e (complete e) n a b i (ended mark.CloseParen b to (refl, refl, refl, refl) l)) l)
   complete (Unary o e) n k from to (a, h, i) stops =
-      rw h.1 (unary_case n k o e h.0 a to (closed e (complete e) n 0 a to i (stops_less (top e) 0 to (top_within e 0 a to i) stops) (no_operator 1 0 to (omega arith) (λ j u p rest g. layer_pos u))))
+      rw h.1
+      (unary_case n k o e h.0 a to (closed e (complete e) n 0 a to i (stops_less (top e) 0 to (top_within e 0 a to i) stops) (no_operator 1 0 to (omega arith) (λ j u p rest g. layer_pos u))))
   complete (Binary o p l r) n k from to (le, (a, h, (b, i, j))) stops =
       let sl : Stops (top l) a = stops_less (top l) (layer o) a (top_within l (layer o) from a h) (rw i (stops_operator o p b)) in
       let left : Goes n k l from a = complete l n k from a (weaken l (layer o) k le from a h) sl in
       let left' : Goes n k l from (MarkToken (binary_mark o) p ∷ b) = subst (λ (s : List Token). Goes n k l from s) i left in
       let tr = top_within r (layer o - 1) b to j in
-      let right = closed r (complete r) n (layer o - 1) b to j (stops_less (top r) (layer o) to (omega arith) stops) (no_operator (layer o) (layer o - 1) to (let x = layer_pos o in omega arith) stops.operators) in
+      let right = closed r (complete r) n (layer o - 1) b to j (stops_less (top r) (layer o) to (omega arith) stops)
+      (no_operator (layer o) (layer o - 1) to (let x = layer_pos o in omega arith) stops.operators) in
       bin_case n k o p l r from b to le left' right
 
   pub all_read : (es : Exprs) (n : ℕ) → AllRead n es
@@ -300,22 +324,26 @@ mutual
 pub expr_answers : (e : Expr) (n : ℕ) (from to : List Token) → IsExpr e from to → Ended to → Answers n (height e) (expr_at n 10 from) e to
 expr_answers e n from to is end = before_end e (complete e) n from to is end
 
-pub arguments_answers : (es : Exprs) (n : ℕ) (from mid to : List Token) → AreArguments es from mid → The mark.CloseParen mid to → Answers n (heights es) (arguments_at (expr_at n) from) (list_of es) to
+pub arguments_answers : (es : Exprs) (n : ℕ) (from mid to : List Token) → AreArguments es from mid → The mark.CloseParen mid to
+    → Answers n (heights es) (arguments_at (expr_at n) from) (list_of es) to
 arguments_answers es n from mid to is end = arguments_case n es (all_read es n) from mid to is end
 
 pub in_parens_answers : (e : Expr) (n : ℕ) (from to : List Token) → InParens e from to → Answers n (height e) (in_parens_at n from) e to
 unfolding in_parens_at
 in_parens_answers e n from to (a, h, (b, i, j)) =
     answer_behind mark.OpenParen from _ refl h
-      (at_height (answer_then (expr_at n 10 a) _ (expr_answers e n a b i (ended mark.CloseParen b to (refl, refl, refl, refl) j)) (answer_behind mark.CloseParen b _ refl j answer)) (height e) (omega arith))
+    (at_height (answer_then (expr_at n 10 a) _ (expr_answers e n a b i (ended mark.CloseParen b to (refl, refl, refl, refl) j)) (answer_behind mark.CloseParen b _ refl j answer)) (height e) (omega arith))
 
 -- what may be absent before a mark
-pub optional_answers : {X : Type 0} (P : X → List Token → List Token → Type 0) (m : Mark) (n : ℕ) (h : X → ℕ) (read : Reader X) → same_mark m m ≡ true
+pub optional_answers : {X : Type 0} (P : X → List Token → List Token → Type 0) (m : Mark) (n : ℕ) (h : X → ℕ) (read : Reader X)
+    → same_mark m m ≡ true
     → ((x : X) (from to : List Token) → P x from to → behind m from ≡ None)
     → ((x : X) (from to rest : List Token) → P x from to → The m to rest → Answers n (h x) (read from) x to)
-    → (x : Option X) (from mid to : List Token) → Optional P x from mid → The m mid to → Answers n (if_there h x) (optional_at m read from) x to
+    → (x : Option X) (from mid to : List Token) → Optional P x from mid → The m mid to
+    → Answers n (if_there h x) (optional_at m read from) x to
 unfolding optional_at
-optional_answers P m n h read same first reads None from mid to is end = answer_there m from (optional_turn m read from) same (rw is end) answer
+optional_answers P m n h read same first reads None from mid to is end =
+    answer_there m from (optional_turn m read from) same (rw is end) answer
 optional_answers P m n h read same first reads (Some x) from mid to is end =
     answer_absent m from (optional_turn m read from) (first x from mid is)
-      (at_height (answer_then (read from) _ (reads x from mid to is end) (answer_behind m mid _ same end answer)) (h x) (omega arith))
+    (at_height (answer_then (read from) _ (reads x from mid to is end) (answer_behind m mid _ same end answer)) (h x) (omega arith))

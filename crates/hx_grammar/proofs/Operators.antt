@@ -1,5 +1,5 @@
 -- The operator in front.
-use Rattle.std.proofs.Common.{◌≡◌, ℕ, zero, suc, ◌+◌, ◌-◌, ◌<◌, ◌≤◌, Bool, true, false, cond, List, [], ◌∷◌, Option, Some, None, refl, sym, ap, subst, ◌∙◌, arith, rules}
+use Rattle.std.proofs.Common.{◌≡◌, ℕ, ◌<◌, ◌≤◌, Bool, true, false, cond, List, [], ◌∷◌, Option, Some, None, refl, sym, ap, subst, ◌∙◌, arith}
 use Rattle.std.proofs.lemmas.Bool.{leb-true, leb-false, le-leb}
 use Rattle.std.specs.Prelude.{nat_le}
 use Rattle.hx_tree.specs.declared.token.Pos.{Pos}
@@ -7,15 +7,11 @@ use Rattle.hx_tree.specs.declared.token.Mark.{Mark}
 use Rattle.hx_tree.specs.declared.token.Mark.TheVariants as mark
 use Rattle.hx_tree.specs.declared.tree.BinaryOp.{BinaryOp}
 use Rattle.hx_tree.specs.declared.tree.BinaryOp.TheVariants.{Strict, And, Or}
-use Rattle.hx_tree.specs.declared.tree.Operator.{Operator}
 use Rattle.hx_tree.specs.declared.tree.Operator.TheVariants as op
 use Rattle.hx_tree.specs.Lexis.{Token, NameToken, NumberToken, MarkToken}
 use Rattle.hx_tree.specs.Grammar.{layer, binary_mark}
-use Rattle.hx_grammar.specs.Reading.{same_mark, behind, binary_of, within, operator_at}
-
-cond_some : {X : Type 0} (b : Bool) (x y : X) → cond b (Some x) None ≡ Some y → (b ≡ true) × (x ≡ y)
-cond_some true x y e = (refl, cc)
-cond_some false x y e = absurd cc
+use Rattle.hx_grammar.specs.Reading.{binary_of, within, operator_at}
+use Rattle.hx_grammar.proofs.Readings.{cond_some}
 
 -- ---- an operator and its mark
 
@@ -104,25 +100,29 @@ operator_is k (MarkToken m q ∷ r) rest o p e =
     (h.1, rw (mo, h.2, h.3) refl)
 
 -- an operator that isn't within j is above it
-within_above : (j k : ℕ) (p q : Pos) (r rest : List Token) (found : Option BinaryOp) (o : BinaryOp) → within j p r found ≡ None → within k p r found ≡ Some (o, q, rest) → j < layer o
+within_above : (j k : ℕ) (p q : Pos) (r rest : List Token) (found : Option BinaryOp) (o : BinaryOp) → within j p r found ≡ None
+    → within k p r found ≡ Some (o, q, rest) → j < layer o
 within_above j k p q r rest None o n e = absurd cc
 within_above j k p q r rest (Some u) o n e =
     let h = within_is k p q r rest (Some u) o e in
     let uo : u ≡ o = cc (h.0) in
     subst (λ (x : BinaryOp). j < layer x) uo (above (nat_le (layer u) j) refl n)
   where
-    above : (b : Bool) → nat_le (layer u) j ≡ b → cond {A = Option (BinaryOp × Pos × List Token)} b (Some (u, p, r)) None ≡ None → j < layer u
+    above : (b : Bool) → nat_le (layer u) j ≡ b → cond {A = Option (BinaryOp × Pos × List Token)} b (Some (u, p, r)) None ≡ None
+        → j < layer u
     above true t e = absurd cc
     above false t e = leb-false (layer u) j t
 
-pub operator_above : (j k : ℕ) (from rest : List Token) (o : BinaryOp) (p : Pos) → operator_at j from ≡ None → operator_at k from ≡ Some (o, p, rest) → j < layer o
+pub operator_above : (j k : ℕ) (from rest : List Token) (o : BinaryOp) (p : Pos) → operator_at j from ≡ None
+    → operator_at k from ≡ Some (o, p, rest) → j < layer o
 unfolding operator_at
 operator_above j k [] rest o p n e = absurd cc
 operator_above j k (NameToken x ∷ r) rest o p n e = absurd cc
 operator_above j k (NumberToken i q ∷ r) rest o p n e = absurd cc
 operator_above j k (MarkToken m q ∷ r) rest o p n e = within_above j k q p r rest (binary_of m) o n e
 
-pub operator_here : (k : ℕ) (o : BinaryOp) (p : Pos) (rest : List Token) → layer o ≤ k → operator_at k (MarkToken (binary_mark o) p ∷ rest) ≡ Some (o, p, rest)
+pub operator_here : (k : ℕ) (o : BinaryOp) (p : Pos) (rest : List Token) → layer o ≤ k
+    → operator_at k (MarkToken (binary_mark o) p ∷ rest) ≡ Some (o, p, rest)
 unfolding operator_at
 operator_here k o p rest le =
     let t : nat_le (layer o) k ≡ true = le-leb (layer o) k le in

@@ -1,19 +1,17 @@
 -- What a reading yields, and what it answers for a tree that the tokens spell; step by step.
-use Rattle.std.proofs.Common.{◌≡◌, ℕ, zero, suc, ◌+◌, ◌-◌, ◌<◌, ◌≤◌, max, Bool, true, false, cond, List, [], ◌∷◌, length, Option, Some, None, Result, Ok, Err, ◌⊎◌, inl, inr, refl, sym, ap, subst, ◌∙◌, arith, rules}
+use Rattle.std.proofs.Common.{◌≡◌, ℕ, suc, ◌<◌, ◌≤◌, max, Bool, true, false, cond, List, [], ◌∷◌, length, Option, Some, None, Result, Ok, Err, ◌⊎◌, inl, inr, refl, sym, ap, subst, arith, rules}
 use denote.Enum.Bare.{same_true}
 use Rattle.hx_tree.specs.contracts.token.Mark.{the_type}
-use Rattle.hx_tree.specs.declared.token.Pos.{Pos}
 use Rattle.hx_tree.specs.declared.token.Mark.{Mark}
 use Rattle.hx_tree.specs.declared.token.Mark.TheVariants as mark
-use Rattle.hx_tree.specs.declared.tree.BinaryOp.{BinaryOp}
 use Rattle.hx_tree.specs.Tree.{Name}
 use Rattle.hx_tree.specs.Lexis.{Token, NameToken, NumberToken, MarkToken}
-use Rattle.hx_tree.specs.Grammar.{The, At, Named, Numeral}
-use Rattle.hx_grammar.specs.Reading.{Refusal, Syntax, TooDeep, ◌>>=◌, Reading, Reader, same_mark, behind, or_syntax, expect, name_at, number_at, binary_of, operator_at}
+use Rattle.hx_tree.specs.Grammar.{The, Named, Numeral}
+use Rattle.hx_grammar.specs.Reading.{Refusal, TooDeep, ◌>>=◌, Reading, same_mark, behind, or_syntax, expect, name_at, number_at, binary_of, operator_at}
 
 -- ---- marks
 
-cond_some : {X : Type 0} (b : Bool) (x y : X) → cond b (Some x) None ≡ Some y → (b ≡ true) × (x ≡ y)
+pub cond_some : {X : Type 0} (b : Bool) (x y : X) → cond b (Some x) None ≡ Some y → (b ≡ true) × (x ≡ y)
 cond_some true x y e = (refl, cc)
 cond_some false x y e = absurd cc
 
@@ -71,8 +69,10 @@ made_is x y e = cc
 
 pub yields : {X : Type 0} {P : X → List Token → Type 0} {x : X} {to : List Token} → P x to → Yields (Ok (x, to)) P
 yields {X} {P} {x} {to} h =
-    record { of = λ y end e. (let a : X × List Token = (x, to) in let b : X × List Token = (y, end) in
-      subst (λ (z : X × List Token). P z.0 z.1) (made_is a b e) h) }
+    record {
+      of = λ y end e. (let a : X × List Token = (x, to) in let b : X × List Token = (y, end) in
+          subst (λ (z : X × List Token). P z.0 z.1) (made_is a b e) h);
+    }
 
 pub yields_none : {X : Type 0} {P : X → List Token → Type 0} {f : Refusal} → Yields (Err f) P
 yields_none = record { of = λ y end e. absurd cc }
@@ -96,14 +96,16 @@ yields_behind {Y} {Q} m from f next = go (behind m from) refl
 
 -- by whether the mark is in front
 pub yields_if : {Y : Type 0} {Q : Y → List Token → Type 0} (m : Mark) (from : List Token) (f : Option (List Token) → Reading Y)
-    → ((to : List Token) → The m from to → Yields (f (Some to)) Q) → (behind m from ≡ None → Yields (f None) Q) → Yields (f (behind m from)) Q
+    → ((to : List Token) → The m from to → Yields (f (Some to)) Q) → (behind m from ≡ None → Yields (f None) Q)
+    → Yields (f (behind m from)) Q
 yields_if {Y} {Q} m from f there absent = go (behind m from) refl
   where
     go : (o : Option (List Token)) → behind m from ≡ o → Yields (f o) Q
     go None e = absent e
     go (Some to) e = there to (behind_is m from to e)
 
-pub yields_more : {X : Type 0} {P Q : X → List Token → Type 0} {read : Reading X} → ((x : X) (to : List Token) → P x to → Q x to) → Yields read P → Yields read Q
+pub yields_more : {X : Type 0} {P Q : X → List Token → Type 0} {read : Reading X} → ((x : X) (to : List Token) → P x to → Q x to)
+    → Yields read P → Yields read Q
 yields_more f h = record { of = λ x to e. f x to (h.of x to e) }
 
 pub yields_name : (from : List Token) → Yields (name_at from) (λ x to. Named x from to)
@@ -138,7 +140,8 @@ pub answer_then : {X Y : Type 0} {room h k : ℕ} {x : X} {y : Y} {mid to : List
     → Answers room h read x mid → Answers room k (f (x, mid)) y to → Answers room (max h k) (read >>= f) y to
 answer_then {X} {Y} {room} {h} {k} {x} {y} {mid} {to} read f first next = record { or_deep = go (first.or_deep) (next.or_deep) }
   where
-    go : ((h ≤ room) × (read ≡ Ok (x, mid))) ⊎ ((room < h) × (read ≡ Err TooDeep)) → ((k ≤ room) × (f (x, mid) ≡ Ok (y, to))) ⊎ ((room < k) × (f (x, mid) ≡ Err TooDeep))
+    go : ((h ≤ room) × (read ≡ Ok (x, mid))) ⊎ ((room < h) × (read ≡ Err TooDeep))
+        → ((k ≤ room) × (f (x, mid) ≡ Ok (y, to))) ⊎ ((room < k) × (f (x, mid) ≡ Err TooDeep))
         → ((max h k ≤ room) × ((read >>= f) ≡ Ok (y, to))) ⊎ ((room < max h k) × ((read >>= f) ≡ Err TooDeep))
     go (inr (deep, e)) other = inr (omega arith, rw e refl)
     go (inl (fits, e)) (inr (deep, g)) = inr (omega arith, rw e g)
@@ -147,43 +150,52 @@ answer_then {X} {Y} {room} {h} {k} {x} {y} {mid} {to} read f first next = record
 expect_here : (m : Mark) (from to : List Token) → same_mark m m ≡ true → The m from to → expect m from ≡ Ok to
 expect_here m from to same h = rw (behind_here m from to same h) refl
 
-pub answer_behind : {Y : Type 0} {room h : ℕ} {y : Y} {mid to : List Token} (m : Mark) (from : List Token) (f : List Token → Reading Y) → same_mark m m ≡ true → The m from mid
+pub answer_behind : {Y : Type 0} {room h : ℕ} {y : Y} {mid to : List Token} (m : Mark) (from : List Token) (f : List Token → Reading Y)
+    → same_mark m m ≡ true → The m from mid
     → Answers room h (f mid) y to → Answers room h (expect m from >>= f) y to
 answer_behind {Y} {room} {h} {y} {mid} {to} m from f same is next =
     subst (λ (r : Result (List Token) Refusal). Answers room h (r >>= f) y to) (sym (expect_here m from mid same is)) next
 
 -- the mark is in front
-pub answer_there : {Y : Type 0} {room h : ℕ} {y : Y} {mid to : List Token} (m : Mark) (from : List Token) (f : Option (List Token) → Reading Y) → same_mark m m ≡ true → The m from mid
+pub answer_there : {Y : Type 0} {room h : ℕ} {y : Y} {mid to : List Token} (m : Mark) (from : List Token) (f : Option (List Token) → Reading Y)
+    → same_mark m m ≡ true → The m from mid
     → Answers room h (f (Some mid)) y to → Answers room h (f (behind m from)) y to
 answer_there {Y} {room} {h} {y} {mid} {to} m from f same is next =
     subst (λ (o : Option (List Token)). Answers room h (f o) y to) (sym (behind_here m from mid same is)) next
 
 -- it isn't
-pub answer_absent : {Y : Type 0} {room h : ℕ} {y : Y} {to : List Token} (m : Mark) (from : List Token) (f : Option (List Token) → Reading Y) → behind m from ≡ None
+pub answer_absent : {Y : Type 0} {room h : ℕ} {y : Y} {to : List Token} (m : Mark) (from : List Token) (f : Option (List Token) → Reading Y)
+    → behind m from ≡ None
     → Answers room h (f None) y to → Answers room h (f (behind m from)) y to
 answer_absent {Y} {room} {h} {y} {to} m from f is next = subst (λ (o : Option (List Token)). Answers room h (f o) y to) (sym is) next
 
 -- a name is in front
-pub answer_name : {Y : Type 0} {room h : ℕ} {y : Y} {mid to : List Token} (x : Name) (from : List Token) (f : Name × List Token → Reading Y) → Named x from mid
+pub answer_name : {Y : Type 0} {room h : ℕ} {y : Y} {mid to : List Token} (x : Name) (from : List Token) (f : Name × List Token → Reading Y)
+    → Named x from mid
     → Answers room h (f (x, mid)) y to → Answers room h (name_at from >>= f) y to
 answer_name {Y} {room} {h} {y} {mid} {to} x from f is next = subst (λ (s : List Token). Answers room h (name_at s >>= f) y to) (sym is) next
 
 pub answer_one_name : {room : ℕ} {to : List Token} (x : Name) (from : List Token) → Named x from to → Answers room 0 (name_at from) x to
 answer_one_name {room} {to} x from is = subst (λ (s : List Token). Answers room 0 (name_at s) x to) (sym is) answer
 
-pub answer_number : {Y : Type 0} {room h : ℕ} {y : Y} {mid to : List Token} (n : ℕ) (from : List Token) (f : ℕ × List Token → Reading Y) → Numeral n from mid
+pub answer_number : {Y : Type 0} {room h : ℕ} {y : Y} {mid to : List Token} (n : ℕ) (from : List Token) (f : ℕ × List Token → Reading Y)
+    → Numeral n from mid
     → Answers room h (f (n, mid)) y to → Answers room h (number_at from >>= f) y to
-answer_number {Y} {room} {h} {y} {mid} {to} n from f is next = subst (λ (s : List Token). Answers room h (number_at s >>= f) y to) (sym is.1) next
+answer_number {Y} {room} {h} {y} {mid} {to} n from f is next =
+    subst (λ (s : List Token). Answers room h (number_at s >>= f) y to) (sym is.1) next
 
 -- the same at an equal height
-pub at_height : {X : Type 0} {room h : ℕ} {read : Reading X} {x : X} {to : List Token} → Answers room h read x to → (k : ℕ) → h ≡ k → Answers room k read x to
+pub at_height : {X : Type 0} {room h : ℕ} {read : Reading X} {x : X} {to : List Token} → Answers room h read x to → (k : ℕ) → h ≡ k
+    → Answers room k read x to
 at_height {X} {room} {h} {read} {x} {to} a k e = subst (λ (i : ℕ). Answers room i read x to) e a
 
 -- a node above it
-pub node : {X : Type 0} {room h : ℕ} {read : Reading X} {x : X} {to : List Token} → Answers room h read x to → (k : ℕ) → suc h ≡ k → Answers (suc room) k read x to
+pub node : {X : Type 0} {room h : ℕ} {read : Reading X} {x : X} {to : List Token} → Answers room h read x to → (k : ℕ) → suc h ≡ k
+    → Answers (suc room) k read x to
 node {X} {room} {h} {read} {x} {to} a k e = record { or_deep = go (a.or_deep) }
   where
-    go : ((h ≤ room) × (read ≡ Ok (x, to))) ⊎ ((room < h) × (read ≡ Err TooDeep)) → ((k ≤ suc room) × (read ≡ Ok (x, to))) ⊎ ((suc room < k) × (read ≡ Err TooDeep))
+    go : ((h ≤ room) × (read ≡ Ok (x, to))) ⊎ ((room < h) × (read ≡ Err TooDeep))
+        → ((k ≤ suc room) × (read ≡ Ok (x, to))) ⊎ ((suc room < k) × (read ≡ Err TooDeep))
     go (inl (fits, r)) = inl (omega arith, r)
     go (inr (deep, r)) = inr (omega arith, r)
 
@@ -198,7 +210,8 @@ pub record Ended (to : List Token) : Type 0 where
 
 -- a mark that does so
 abbrev pub Ends : Mark → Type 0
-Ends m = (binary_of m ≡ None) × (same_mark m mark.OpenBracket ≡ false) × (same_mark m mark.OpenParen ≡ false) × (same_mark m mark.Assign ≡ false)
+Ends m =
+    (binary_of m ≡ None) × (same_mark m mark.OpenBracket ≡ false) × (same_mark m mark.OpenParen ≡ false) × (same_mark m mark.Assign ≡ false)
 
 pub ended : (m : Mark) (from to : List Token) → Ends m → The m from to → Ended from
 unfolding operator_at

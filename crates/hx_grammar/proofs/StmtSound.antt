@@ -1,12 +1,12 @@
 -- A statement that is read is spelled so, and no `else` follows that it could have.
-use Rattle.std.proofs.Common.{◌≡◌, ℕ, zero, suc, Bool, true, false, cond, List, [], ◌∷◌, Option, Some, None, Result, Ok, Err, refl, sym, ap, subst, ◌∙◌, arith}
+use Rattle.std.proofs.Common.{◌≡◌, ℕ, zero, suc, Bool, true, false, cond, List, [], ◌∷◌, Option, Some, None, refl}
 use Rattle.hx_tree.specs.declared.token.Pos.{Pos}
 use Rattle.hx_tree.specs.declared.token.Mark.{Mark}
 use Rattle.hx_tree.specs.declared.token.Mark.TheVariants as mark
-use Rattle.hx_tree.specs.Tree.{Name, Expr, exprs, Stmt, Block, Empty, Assign, CallStatement, Print, Emit, If, IfElse, While, For, Break, Continue, Return, Part, Locals, Statement, parts}
+use Rattle.hx_tree.specs.Tree.{Name, Stmt, Part, parts}
 use Rattle.hx_tree.specs.Lexis.{Token, NameToken, NumberToken, MarkToken}
-use Rattle.hx_tree.specs.Grammar.{The, IsExpr, InParens, ends_open, IsStmt, IsPart, AreParts, ◌⨾◌}
-use Rattle.hx_grammar.specs.Reading.{Refusal, TooDeep, ◌>>=◌, Reading, Reader, behind, expr_at, until, part_turn, part_at, parts_at, block_at, named_stmt_turn, named_stmt_at, print_at, emit_at, else_turn, else_at, if_at, while_at, for_at, break_at, continue_at, return_at, marked_stmt_at, stmt_with, stmt_at}
+use Rattle.hx_tree.specs.Grammar.{The, IsExpr, ends_open, IsStmt, IsPart, AreParts, ◌⨾◌}
+use Rattle.hx_grammar.specs.Reading.{Reader, behind, expr_at, part_turn, part_at, parts_at, block_at, named_stmt_turn, named_stmt_at, print_at, emit_at, else_turn, else_at, if_at, while_at, for_at, break_at, continue_at, return_at, marked_stmt_at, stmt_with, stmt_at}
 use Rattle.hx_grammar.proofs.Readings.{behind_here, Yields, yields, yields_none, yields_then, yields_behind, yields_if, yields_more}
 use Rattle.hx_grammar.proofs.Lists.{OneAfterOther, until_yields}
 use Rattle.hx_grammar.proofs.ExprSound.{whole_expr_yields, expr_yields, arguments_yields, in_parens_yields, optional_yields}
@@ -27,25 +27,30 @@ never e = absurd cc
 
 -- ---- blocks
 
-part_yields : (room : ℕ) (below : Reader Stmt) → StmtSound below → (from : List Token) → Yields (part_at room below from) (λ p to. IsPart p from to)
+part_yields : (room : ℕ) (below : Reader Stmt) → StmtSound below → (from : List Token)
+    → Yields (part_at room below from) (λ p to. IsPart p from to)
 unfolding part_at
 part_yields room below sound from =
     yields_if mark.Int from (part_turn room below from)
-      (λ a h. yields_then _ _ (locals_yields room a) (λ ds b i. yields_behind _ _ _ (λ to c. yields (b, (a, h, i), c))))
-      (λ none. yields_then _ _ (sound from) (λ s to h. yields (h.0)))
+    (λ a h. yields_then _ _ (locals_yields room a) (λ ds b i. yields_behind _ _ _ (λ to c. yields (b, (a, h, i), c))))
+    (λ none. yields_then _ _ (sound from) (λ s to h. yields (h.0)))
 
 parts_are : (ps : List Part) (from to : List Token) → OneAfterOther IsPart ps from to → AreParts (parts ps) from to
 parts_are [] from to h = h
 parts_are (p ∷ ps) from to (a, h, hs) = (a, h, parts_are ps a to hs)
 
-pub parts_yields : (room : ℕ) (below : Reader Stmt) → StmtSound below → (from : List Token) → Yields (parts_at room below from) (λ ps to. (AreParts (parts ps) ⨾ The mark.CloseBrace) from to)
+pub parts_yields : (room : ℕ) (below : Reader Stmt) → StmtSound below → (from : List Token)
+    → Yields (parts_at room below from) (λ ps to. (AreParts (parts ps) ⨾ The mark.CloseBrace) from to)
 unfolding parts_at
 parts_yields room below sound from =
-    yields_more (λ ps to h. (h.0, parts_are ps from h.0 h.1, h.2)) (until_yields {P = IsPart} mark.CloseBrace (part_at room below) (part_yields room below sound) from)
+    yields_more (λ ps to h. (h.0, parts_are ps from h.0 h.1, h.2))
+    (until_yields {P = IsPart} mark.CloseBrace (part_at room below) (part_yields room below sound) from)
 
-block_yields : (room : ℕ) (below : Reader Stmt) → StmtSound below → (p : Pos) (from : List Token) → Yields (block_at room below from) (StmtRead (MarkToken mark.OpenBrace p ∷ from))
+block_yields : (room : ℕ) (below : Reader Stmt) → StmtSound below → (p : Pos) (from : List Token)
+    → Yields (block_at room below from) (StmtRead (MarkToken mark.OpenBrace p ∷ from))
 unfolding block_at
-block_yields room below sound p from = yields_then _ _ (parts_yields room below sound from) (λ ps to h. yields ((from, (p, refl), h), λ e. never e))
+block_yields room below sound p from =
+    yields_then _ _ (parts_yields room below sound from) (λ ps to h. yields ((from, (p, refl), h), λ e. never e))
 
 -- ---- statements by what they begin with
 
@@ -53,41 +58,46 @@ named_stmt_yields : (room : ℕ) (x : Name) (from : List Token) → Yields (name
 unfolding named_stmt_at
 named_stmt_yields room x from =
     yields_if mark.OpenParen from (named_stmt_turn room x from)
-      (λ a h. yields_then _ _ (arguments_yields (expr_at room) (expr_yields room) a) (λ es b i. yields_behind _ _ _ (λ to c. yields ((from, refl, (a, h, (i.0, i.1, (b, i.2, c)))), λ e. never e))))
-      (λ none. yields_then _ _ (assigned_yields room x from) (λ u b i. yields_behind _ _ _ (λ to c. yields ((b, i, c), λ e. never e))))
+    (λ a h. yields_then _ _ (arguments_yields (expr_at room) (expr_yields room) a) (λ es b i. yields_behind _ _ _ (λ to c. yields ((from, refl, (a, h, (i.0, i.1, (b, i.2, c)))), λ e. never e))))
+    (λ none. yields_then _ _ (assigned_yields room x from) (λ u b i. yields_behind _ _ _ (λ to c. yields ((b, i, c), λ e. never e))))
 
 print_yields : (room : ℕ) (p : Pos) (from : List Token) → Yields (print_at room p from) (StmtRead (MarkToken mark.Print p ∷ from))
 unfolding print_at
-print_yields room p from = yields_then _ _ (in_parens_yields room from) (λ v b h. yields_behind _ _ _ (λ to c. yields ((from, refl, (b, h, c)), λ e. never e)))
+print_yields room p from =
+    yields_then _ _ (in_parens_yields room from) (λ v b h. yields_behind _ _ _ (λ to c. yields ((from, refl, (b, h, c)), λ e. never e)))
 
 emit_yields : (room : ℕ) (p : Pos) (from : List Token) → Yields (emit_at room p from) (StmtRead (MarkToken mark.Emit p ∷ from))
 unfolding emit_at
-emit_yields room p from = yields_then _ _ (in_parens_yields room from) (λ v b h. yields_behind _ _ _ (λ to c. yields ((from, refl, (b, h, c)), λ e. never e)))
+emit_yields room p from =
+    yields_then _ _ (in_parens_yields room from) (λ v b h. yields_behind _ _ _ (λ to c. yields ((from, refl, (b, h, c)), λ e. never e)))
 
 -- a statement before an `else` that it doesn't take
 taken : (b : Bool) (o : Option (List Token)) (rest : List Token) → (b ≡ true → o ≡ None) → o ≡ Some rest → b ≡ false
 taken true o rest f e = let x = f refl in absurd cc
 taken false o rest f e = refl
 
-if_yields : (room : ℕ) (below : Reader Stmt) → StmtSound below → (p : Pos) (from : List Token) → Yields (if_at room below from) (StmtRead (MarkToken mark.If p ∷ from))
+if_yields : (room : ℕ) (below : Reader Stmt) → StmtSound below → (p : Pos) (from : List Token)
+    → Yields (if_at room below from) (StmtRead (MarkToken mark.If p ∷ from))
 unfolding if_at else_at
 if_yields room below sound p from =
     yields_then _ _ (in_parens_yields room from) (λ v a h. yields_then _ _ (sound a) (λ s b i.
-      yields_if mark.Else b (else_turn below v s b)
-        (λ c j. yields_then _ _ (sound c) (λ t to k. yields ((taken (ends_open s) (behind mark.Else b) c i.1 (behind_here mark.Else b c refl j), (from, (p, refl), (a, h, (b, i.0, (c, j, k.0))))), k.1)))
-        (λ none. yields ((from, (p, refl), (a, h, i.0)), λ e. none))))
+    yields_if mark.Else b (else_turn below v s b)
+    (λ c j. yields_then _ _ (sound c) (λ t to k. yields ((taken (ends_open s) (behind mark.Else b) c i.1 (behind_here mark.Else b c refl j), (from, (p, refl), (a, h, (b, i.0, (c, j, k.0))))), k.1)))
+    (λ none. yields ((from, (p, refl), (a, h, i.0)), λ e. none))))
 
 while_yields : (room : ℕ) (below : Reader Stmt) → StmtSound below → (marked : Bool) (p : Pos) (from : List Token)
     → Yields (while_at room below marked from) (StmtRead (MarkToken (cond marked mark.MarkedWhile mark.While) p ∷ from))
 unfolding while_at
 while_yields room below sound marked p from =
-    yields_then _ _ (in_parens_yields room from) (λ v a h. yields_then _ _ (sound a) (λ s to i. yields ((from, (p, refl), (a, h, i.0)), i.1)))
+    yields_then _ _ (in_parens_yields room from)
+    (λ v a h. yields_then _ _ (sound a) (λ s to i. yields ((from, (p, refl), (a, h, i.0)), i.1)))
 
 for_yields : (room : ℕ) (below : Reader Stmt) → StmtSound below → (marked : Bool) (p : Pos) (from : List Token)
     → Yields (for_at room below marked from) (StmtRead (MarkToken (cond marked mark.MarkedFor mark.For) p ∷ from))
 unfolding for_at
 for_yields room below sound marked p from =
-    yields_then _ _ (for_clauses_yields room from) (λ v a h. yields_then _ _ (sound a) (λ s to i. yields ((from, (p, refl), (a, h, i.0)), i.1)))
+    yields_then _ _ (for_clauses_yields room from)
+    (λ v a h. yields_then _ _ (sound a) (λ s to i. yields ((from, (p, refl), (a, h, i.0)), i.1)))
 
 break_yields : (p : Pos) (from : List Token) → Yields (break_at p from) (StmtRead (MarkToken mark.Break p ∷ from))
 unfolding break_at
@@ -100,9 +110,11 @@ continue_yields p from = yields_behind _ _ _ (λ to c. yields ((from, refl, c), 
 return_yields : (room : ℕ) (p : Pos) (from : List Token) → Yields (return_at room p from) (StmtRead (MarkToken mark.Return p ∷ from))
 unfolding return_at
 return_yields room p from =
-    yields_then _ _ (optional_yields {P = IsExpr} mark.Semicolon (expr_at room 10) (whole_expr_yields room) from) (λ v to h. yields ((from, refl, h), λ e. never e))
+    yields_then _ _ (optional_yields {P = IsExpr} mark.Semicolon (expr_at room 10) (whole_expr_yields room) from)
+    (λ v to h. yields ((from, refl, h), λ e. never e))
 
-marked_stmt_yields : (room : ℕ) (below : Reader Stmt) → StmtSound below → (m : Mark) (p : Pos) (from : List Token) → Yields (marked_stmt_at room below m p from) (StmtRead (MarkToken m p ∷ from))
+marked_stmt_yields : (room : ℕ) (below : Reader Stmt) → StmtSound below → (m : Mark) (p : Pos) (from : List Token)
+    → Yields (marked_stmt_at room below m p from) (StmtRead (MarkToken m p ∷ from))
 unfolding marked_stmt_at
 marked_stmt_yields room below sound mark.OpenBrace p from = block_yields room below sound p from
 marked_stmt_yields room below sound mark.Semicolon p from = yields ((p, refl), λ e. never e)
@@ -118,7 +130,8 @@ marked_stmt_yields room below sound mark.Continue p from = continue_yields p fro
 marked_stmt_yields room below sound mark.Return p from = return_yields room p from
 marked_stmt_yields room below sound m p from = yields_none
 
-stmt_with_yields : (room : ℕ) (below : Reader Stmt) → StmtSound below → (from : List Token) → Yields (stmt_with room below from) (StmtRead from)
+stmt_with_yields : (room : ℕ) (below : Reader Stmt) → StmtSound below → (from : List Token)
+    → Yields (stmt_with room below from) (StmtRead from)
 unfolding stmt_with
 stmt_with_yields room below sound [] = yields_none
 stmt_with_yields room below sound (NameToken x ∷ rest) = named_stmt_yields room x rest

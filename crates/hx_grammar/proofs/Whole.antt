@@ -1,11 +1,10 @@
--- What an answer to all tokens says.
-use Rattle.std.proofs.Common.{◌≡◌, ℕ, zero, suc, ◌+◌, ◌-◌, ◌<◌, ◌≤◌, List, Result, Ok, Err, ◌⊎◌, inl, inr, refl, sym, ◌∙◌, arith}
-use Rattle.hx_tree.specs.declared.limits.TheConstants.{HEIGHT_LIMIT}
+-- What an answer to all tokens says, at every room; and that they spell one program at most.
+use Rattle.std.proofs.Common.{◌≡◌, ℕ, ◌+◌, ◌<◌, ◌≤◌, List, Result, Ok, Err, ◌⊎◌, inl, inr, sym, ◌∙◌, arith}
 use Rattle.hx_tree.specs.Tree.{Program}
 use Rattle.hx_tree.specs.Lexis.{Token}
 use Rattle.hx_tree.specs.Grammar.{IsProgram}
 use Rattle.hx_tree.specs.Height.{program_height}
-use Rattle.hx_grammar.specs.Reading.{Refusal, Syntax, TooDeep, program_at, read_program}
+use Rattle.hx_grammar.specs.Reading.{Refusal, Syntax, TooDeep, program_at}
 use Rattle.hx_grammar.proofs.Readings.{made, made_is}
 use Rattle.hx_grammar.proofs.ItemSound.{program_sound}
 use Rattle.hx_grammar.proofs.ItemComplete.{program_complete}
@@ -13,24 +12,26 @@ use Rattle.hx_grammar.proofs.ItemComplete.{program_complete}
 abbrev refused : Refusal → Result Program Refusal
 refused f = Err f
 
--- a program is read, or it's too deep
-abbrev Read : List Token → Program → Type 0
-Read tokens p = ((program_height p ≤ HEIGHT_LIMIT) × (read_program tokens ≡ made p)) ⊎ ((HEIGHT_LIMIT < program_height p) × (read_program tokens ≡ refused TooDeep))
+-- the program is read, or it's too deep
+abbrev pub Again : ℕ → List Token → Program → Type 0
+Again room tokens p =
+    ((program_height p ≤ room + 3) × (program_at room tokens ≡ Ok p)) ⊎
+    ((room + 3 < program_height p) × (program_at room tokens ≡ Err TooDeep))
 
-read : (tokens : List Token) (p : Program) → IsProgram p tokens → Read tokens p
-unfolding read_program
-read tokens p is = program_complete (HEIGHT_LIMIT - 3) tokens p is
+pub again : (room : ℕ) (tokens : List Token) (p : Program) → IsProgram p tokens → Again room tokens p
+again = program_complete
 
 -- ---- programs that are spelled
 
-pub spelled_is_read : (tokens : List Token) (p : Program) → IsProgram p tokens → program_height p ≤ HEIGHT_LIMIT → read_program tokens ≡ Ok p
-spelled_is_read tokens p is low = elim (read tokens p is) [ | inl (fits, h) ↦ h | inr (deep, h) ↦ absurd (omega arith) ]
+pub low_is_read : (room : ℕ) (tokens : List Token) (p : Program) → IsProgram p tokens → program_height p ≤ room + 3
+    → program_at room tokens ≡ Ok p
+low_is_read room tokens p is low = elim (again room tokens p is) [ inl (fits, h) ↦ h | inr (deep, h) ↦ absurd (omega arith) ]
 
-pub higher_is_too_deep : (tokens : List Token) (p : Program) → IsProgram p tokens → HEIGHT_LIMIT < program_height p → read_program tokens ≡ Err TooDeep
-higher_is_too_deep tokens p is high = elim (read tokens p is) [ | inl (fits, h) ↦ absurd (omega arith) | inr (deep, h) ↦ h ]
+pub high_is_too_deep : (room : ℕ) (tokens : List Token) (p : Program) → IsProgram p tokens → room + 3 < program_height p
+    → program_at room tokens ≡ Err TooDeep
+high_is_too_deep room tokens p is high = elim (again room tokens p is) [ inl (fits, h) ↦ absurd (omega arith) | inr (deep, h) ↦ h ]
 
-same_program : (room : ℕ) (tokens : List Token) (p q : Program) → program_at room tokens ≡ made p
-    → ((program_height q ≤ room + 3) × (program_at room tokens ≡ made q)) ⊎ ((room + 3 < program_height q) × (program_at room tokens ≡ refused TooDeep)) → p ≡ q
+same_program : (room : ℕ) (tokens : List Token) (p q : Program) → program_at room tokens ≡ made p → Again room tokens q → p ≡ q
 same_program room tokens p q e (inl (fits, h)) = made_is p q (sym e ∙ h)
 same_program room tokens p q e (inr (deep, h)) = let x : made p ≡ refused TooDeep = sym e ∙ h in absurd cc
 
@@ -38,30 +39,33 @@ same_program room tokens p q e (inr (deep, h)) = let x : made p ≡ refused TooD
 pub spells_one_at_most : (tokens : List Token) (p q : Program) → IsProgram p tokens → IsProgram q tokens → p ≡ q
 spells_one_at_most tokens p q is other =
     let room : ℕ = program_height p in
-    elim (program_complete room tokens p is) [ | inl (fits, h) ↦ same_program room tokens p q h (program_complete room tokens q other) | inr (deep, h) ↦ absurd (omega arith) ]
+    same_program room tokens p q (low_is_read room tokens p is (omega arith)) (again room tokens q other)
 
 -- ---- answers
 
-high_enough : (tokens : List Token) (p : Program) → read_program tokens ≡ made p → Read tokens p → program_height p ≤ HEIGHT_LIMIT
-high_enough tokens p e (inl (fits, h)) = fits
-high_enough tokens p e (inr (deep, h)) = let x : made p ≡ refused TooDeep = sym e ∙ h in absurd cc
+fits_room : (room : ℕ) (tokens : List Token) (p : Program) → program_at room tokens ≡ made p → Again room tokens p
+    → program_height p ≤ room + 3
+fits_room room tokens p e (inl (fits, h)) = fits
+fits_room room tokens p e (inr (deep, h)) = let x : made p ≡ refused TooDeep = sym e ∙ h in absurd cc
 
-pub read_is_spelled : (tokens : List Token) (p : Program) → read_program tokens ≡ Ok p → IsProgram p tokens × (program_height p ≤ HEIGHT_LIMIT)
-unfolding read_program
-read_is_spelled tokens p e =
-    let is = program_sound (HEIGHT_LIMIT - 3) tokens p e in
-    (is, high_enough tokens p e (read tokens p is))
+pub found : (room : ℕ) (tokens : List Token) (p : Program) → program_at room tokens ≡ Ok p
+    → IsProgram p tokens × (program_height p ≤ room + 3)
+found room tokens p e =
+    let is = program_sound room tokens p e in
+    (is, fits_room room tokens p e (again room tokens p is))
 
-pub read_is_only : (tokens : List Token) (p : Program) → read_program tokens ≡ Ok p → (q : Program) → IsProgram q tokens → q ≡ p
-read_is_only tokens p e q is = spells_one_at_most tokens q p is ((read_is_spelled tokens p e).0)
+pub only_one : (room : ℕ) (tokens : List Token) (p : Program) → program_at room tokens ≡ Ok p → (q : Program) → IsProgram q tokens → q ≡ p
+only_one room tokens p e q is = spells_one_at_most tokens q p is (program_sound room tokens p e)
 
 different : refused TooDeep ≡ refused Syntax → ⊥
 different e = cc
 
-pub syntax_spells_none : (tokens : List Token) → read_program tokens ≡ Err Syntax → (p : Program) → IsProgram p tokens → ⊥
-syntax_spells_none tokens e p is =
-    elim (read tokens p is) [ | inl (fits, h) ↦ (let x : made p ≡ refused Syntax = sym h ∙ e in cc) | inr (deep, h) ↦ different (sym h ∙ e) ]
+pub none_spelled : (room : ℕ) (tokens : List Token) → program_at room tokens ≡ Err Syntax → (p : Program) → IsProgram p tokens → ⊥
+none_spelled room tokens e p is =
+    elim
+    (again room tokens p is) [ inl (fits, h) ↦ (let x : made p ≡ refused Syntax = sym h ∙ e in cc) | inr (deep, h) ↦ different (sym h ∙ e) ]
 
-pub too_deep_spells_higher : (tokens : List Token) → read_program tokens ≡ Err TooDeep → (p : Program) → IsProgram p tokens → HEIGHT_LIMIT < program_height p
-too_deep_spells_higher tokens e p is =
-    elim (read tokens p is) [ | inl (fits, h) ↦ (let x : made p ≡ refused TooDeep = sym h ∙ e in absurd cc) | inr (deep, h) ↦ deep ]
+pub none_low : (room : ℕ) (tokens : List Token) → program_at room tokens ≡ Err TooDeep → (p : Program) → IsProgram p tokens
+    → room + 3 < program_height p
+none_low room tokens e p is =
+    elim (again room tokens p is) [ inl (fits, h) ↦ (let x : made p ≡ refused TooDeep = sym h ∙ e in absurd cc) | inr (deep, h) ↦ deep ]

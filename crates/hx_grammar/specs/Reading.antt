@@ -2,7 +2,6 @@
 use Rattle.std.specs.Prelude.{ℕ, zero, suc, ◌-◌, List, [], ◌∷◌, length, Bool, true, false, Option, Some, None, Result, Ok, Err, nat_le, nat_lt, if◌then◌else◌}
 use denote.Enum.Bare.{sameb}
 use Rattle.hx_tree.specs.contracts.token.Mark.{the_type}
-use Rattle.hx_tree.specs.declared.limits.TheConstants.{HEIGHT_LIMIT}
 use Rattle.hx_tree.specs.declared.token.Pos.{Pos}
 use Rattle.hx_tree.specs.declared.token.Mark.{Mark}
 use Rattle.hx_tree.specs.declared.token.Mark.TheVariants as mark
@@ -15,7 +14,7 @@ use Rattle.hx_tree.specs.declared.tree.BinaryOp.{BinaryOp}
 use Rattle.hx_tree.specs.declared.tree.BinaryOp.TheVariants.{Strict, And, Or}
 use Rattle.hx_tree.specs.declared.tree.Operator.{Operator}
 use Rattle.hx_tree.specs.declared.tree.Operator.TheVariants as op
-use Rattle.hx_tree.specs.Tree.{Name, Expr, Number, Variable, Element, Call, Paren, Unary, Binary, exprs, LocalDecl, Place, ToVariable, ToElement, Assignment, Set, Update, Increment, Decrement, Init, NoInit, InitLocals, InitAssign, ForClauses, Stmt, Block, Empty, Assign, CallStatement, Print, Emit, If, IfElse, While, For, Break, Continue, Return, Part, Locals, Statement, parts, Shape, Scalar, Array, GlobalDecl, Params, NoParams, VoidParams, NamedParams, Func, Item, Globals, Function, Program}
+use Rattle.hx_tree.specs.Tree.{Name, Expr, Number, Variable, Element, Call, Paren, Unary, Binary, exprs, LocalDecl, Place, ToVariable, ToElement, Assignment, Set, Update, Increment, Decrement, Init, NoInit, InitLocals, InitAssign, ForClauses, Stmt, Block, Empty, Assign, CallStatement, Print, Emit, If, IfElse, While, For, Break, Continue, Return, Part, Locals, Statement, parts, Shape, Scalar, Array, GlobalDecl, Params, NoParams, VoidParams, NamedParams, Item, Globals, Function, Program}
 use Rattle.hx_tree.specs.Lexis.{Token, NameToken, NumberToken, MarkToken}
 use Rattle.hx_tree.specs.Grammar.{layer}
 use Rattle.hx_tree.specs.Height.{height}
@@ -590,12 +589,8 @@ item_turn room tokens None None = Err Syntax
 unfoldable pub item_at : ℕ → Reader Item
 item_at room tokens = item_turn room tokens (behind mark.Int tokens) (behind mark.Void tokens)
 
--- a program, where the parts of each function's body have height at most the room
+-- a program, where the parts of each function's body have height at most the room: three nodes stand above them
 unfoldable pub program_at : ℕ → List Token → Result Program Refusal
 program_at room tokens = do
   is ← all_of until_end (item_at room) tokens
   Ok (record { items = is.0 })
-
--- a program, a function and its body are three nodes above the parts of the body
-unfoldable pub read_program : List Token → Result Program Refusal
-read_program tokens = program_at (HEIGHT_LIMIT - 3) tokens
