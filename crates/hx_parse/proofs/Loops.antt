@@ -1,5 +1,5 @@
 -- The loops of the parser: what is read so far, and what reading goes on to give.
-use Rattle.std.proofs.Common.{◌≡◌, ℕ, zero, suc, ◌+◌, ◌-◌, ◌<◌, ◌≤◌, max, Bool, true, false, List, [], ◌∷◌, ◌++◌, length, map, Option, Some, None, Result, Ok, Err, refl, sym, ap, subst, ◌∙◌, arith, append_assoc}
+use Rattle.std.proofs.Common.{◌≡◌, ℕ, zero, suc, ◌+◌, ◌-◌, ◌<◌, ◌≤◌, max, true, false, List, [], ◌∷◌, ◌++◌, length, Some, None, Result, Ok, Err, refl, sym, ap, subst, ◌∙◌, arith, append_assoc}
 use Rattle.std.specs.Prelude.{nat_lt}
 use Rattle.std.proofs.lemmas.Bool.{lt-ltb, le-ltb}
 use Rattle.hx_tree.specs.declared.token.Pos.{Pos}
@@ -8,7 +8,7 @@ use Rattle.hx_tree.specs.declared.token.Mark.TheVariants as mark
 use Rattle.hx_tree.specs.declared.tree.BinaryOp.{BinaryOp}
 use Rattle.hx_tree.specs.Lexis.{Token}
 use Rattle.hx_tree.specs.Grammar.{layer}
-use Rattle.hx_tree.specs.Tree.{Expr, Exprs, Binary, exprs}
+use Rattle.hx_tree.specs.Tree.{Expr, Binary, exprs}
 use Rattle.hx_tree.specs.Height.{height, heights}
 use Rattle.hx_grammar.specs.Reading as reading
 use Rattle.hx_grammar.specs.Reading.{◌>>=◌, Reading, Reader, Refusal, behind, Turn, Further, Ends, at_comma, until, until_end, turned, many, all_of, listed, listed_from, operator_at, Below, arguments_at, expect, operand_at, chain, expr_at}

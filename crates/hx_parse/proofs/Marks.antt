@@ -1,5 +1,5 @@
 -- The token in front.
-use Rattle.std.proofs.Common.{◌≡◌, ℕ, zero, suc, ◌+◌, ◌<◌, ◌≤◌, Bool, true, false, List, [], ◌∷◌, length, drop, map, Option, Some, None, refl, sym, ap, subst, ◌∙◌, arith, add-one, cond}
+use Rattle.std.proofs.Common.{◌≡◌, ℕ, zero, suc, ◌+◌, ◌<◌, ◌≤◌, Bool, true, false, List, [], ◌∷◌, length, drop, Option, Some, None, refl, ap, arith, add-one, cond}
 use Rattle.std.specs.Prelude.{nat_le}
 use Rattle.std.proofs.lemmas.Bool.{le-leb, lt-leb}
 use Rattle.hx_tree.specs.declared.token.Mark.{Mark}
@@ -9,7 +9,7 @@ use Rattle.hx_tree.specs.Lexis as lexis
 use Rattle.hx_tree.specs.Lexis.{NameToken, NumberToken, MarkToken}
 use Rattle.hx_tree.specs.Grammar.{layer}
 use Rattle.hx_lex.specs.declared.token.Token.{Token}
-use Rattle.hx_lex.specs.View.{token_of, tokens_of}
+use Rattle.hx_lex.specs.View.{tokens_of}
 use Rattle.hx_grammar.specs.Reading.{same_mark, front, behind, binary_of, within, operator_at}
 
 skip_drop : (ts : List Token) (i : ℕ) → tokens_of (drop (suc i) ts) ≡ drop 1 (tokens_of (drop i ts))

@@ -1,9 +1,7 @@
 -- What a refusal of a whole program says.
-use Rattle.std.proofs.Common.{◌≡◌, ℕ, ◌+◌, ◌<◌, ◌≤◌, List, arith}
+use Rattle.std.proofs.Common.{ℕ, ◌+◌, ◌<◌, ◌≤◌, List, arith}
 use Rattle.hx_tree.specs.declared.limits.TheConstants.{HEIGHT_LIMIT}
 use Rattle.hx_tree.specs.Lexis.{Token}
-use Rattle.hx_tree.specs.Tree.{Program}
-use Rattle.hx_tree.specs.Grammar.{IsProgram}
 use Rattle.hx_tree.specs.Height.{program_height}
 use Rattle.hx_grammar.specs.Reading.{program_at}
 use Rattle.hx_grammar.proofs.Whole.{none_spelled, none_low}

@@ -1,5 +1,5 @@
 -- What a function of the parser returns, against a reading of the tokens.
-use Rattle.std.specs.Prelude.{◌≡◌, ℕ, List, Result, Ok, Err}
+use Rattle.std.specs.Prelude.{◌≡◌, List, Result, Ok, Err}
 use Rattle.hx_tree.specs.Tree as tree
 use Rattle.hx_tree.specs.Lexis as lexis
 use Rattle.hx_lex.specs.declared.token.Token.{Token}

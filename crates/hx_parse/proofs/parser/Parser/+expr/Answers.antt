@@ -1,13 +1,12 @@
-use Rattle.std.proofs.Common.{◌≡◌, ◌<◌, ◌≤◌, ◌+◌, ◌-◌, ℕ, suc, max, List, [], ◌∷◌, ◌++◌, map, length, Some, None, Ok, refl, sym, ap, ◌∙◌, arith}
+use Rattle.std.proofs.Common.{◌≡◌, ◌<◌, [], ◌∷◌, ◌++◌, map, length, refl, ap, arith}
 use Rattle.std.proofs.lemmas.Result.{err_from_is_err_and}
 use Rattle.std.proofs.lemmas.List.{map_push}
 use Rattle.hx_tree.specs.declared.token.Mark.TheVariants as mark
 use Rattle.hx_tree.specs.View.{expr_of}
-use Rattle.hx_tree.specs.Tree.{exprs}
-use Rattle.hx_tree.specs.Height.{height, heights}
-use Rattle.hx_grammar.specs.Reading.{behind, at_comma, listed, expr_at, arguments_at}
+use Rattle.hx_tree.specs.Height.{height}
+use Rattle.hx_grammar.specs.Reading.{listed, expr_at}
 use Rattle.hx_parse.proofs.Marks.{behind_shorter, operator_shorter}
-use Rattle.hx_parse.proofs.Loops.{goes_begins_listed, listed_no_first, commas_end, commas_go_on, commas_fail, no_arguments, arguments_are, arguments_fail, arguments_stay_open, chain_begins, chain_no_operand, chain_ends, chain_too_deep, chain_goes_on, chain_no_right, heights-push}
+use Rattle.hx_parse.proofs.Loops.{listed_no_first, commas_end, commas_go_on, commas_fail, no_arguments, arguments_are, arguments_fail, arguments_stay_open, chain_begins, chain_no_operand, chain_ends, chain_too_deep, chain_goes_on, chain_no_right, heights-push}
 use Rattle.hx_parse.proofs.parser.Parser.+expr.Goals as goal
 
 pub expr-returns-then-room-eq0-clause-read : goal.expr-returns-then-room-eq0-clause-read

@@ -1,4 +1,4 @@
-use Rattle.std.proofs.Common.{◌≡◌, ◌<◌, ◌≤◌, ◌+◌, ◌-◌, ℕ, suc, List, [], ◌∷◌, ◌++◌, map, length, Some, None, Ok, refl, sym, ap, ◌∙◌, arith}
+use Rattle.std.proofs.Common.{◌≡◌, [], ◌∷◌, ◌++◌, map, length, ap, arith}
 use Rattle.std.proofs.lemmas.Result.{err_from_is_err_and}
 use Rattle.std.proofs.lemmas.List.{map_push}
 use Rattle.hx_tree.specs.declared.token.Mark.TheVariants as mark
@@ -6,7 +6,6 @@ use Rattle.hx_tree.specs.View.{part_of}
 use Rattle.hx_grammar.specs.Reading.{until, all_of, part_at, parts_at, stmt_at}
 use Rattle.hx_parse.proofs.Marks.{behind_shorter}
 use Rattle.hx_parse.proofs.Loops.{until_ends, until_goes_on, until_fails}
-use Rattle.hx_parse.proofs.Steps.{stmt_zero, stmt_is}
 use Rattle.hx_parse.proofs.parser.Parser.+stmt.Goals as goal
 
 pub parts-returns-in_err-next-clause-read : goal.parts-returns-in_err-next-clause-read

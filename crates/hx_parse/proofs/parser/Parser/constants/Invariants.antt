@@ -1,5 +1,5 @@
-use Rattle.std.proofs.Common.{◌<◌, ◌≤◌, length, map}
-use Rattle.hx_grammar.specs.Reading.{at_comma, listed, listed_from, constant_at}
+use Rattle.std.proofs.Common.{◌<◌, length}
+use Rattle.hx_grammar.specs.Reading.{at_comma, listed, constant_at}
 use Rattle.hx_parse.proofs.Loops.{Goes}
 use Rattle.hx_parse.proofs.parser.Parser.constants.Given as goal
 

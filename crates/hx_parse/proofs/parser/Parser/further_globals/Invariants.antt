@@ -1,6 +1,6 @@
-use Rattle.std.proofs.Common.{◌<◌, ◌≤◌, length, map}
+use Rattle.std.proofs.Common.{◌≤◌, length, map}
 use Rattle.hx_tree.specs.View.{global_of}
-use Rattle.hx_grammar.specs.Reading.{at_comma, listed, listed_from, global_at}
+use Rattle.hx_grammar.specs.Reading.{at_comma, listed_from, global_at}
 use Rattle.hx_parse.proofs.Loops.{Goes}
 use Rattle.hx_parse.proofs.parser.Parser.further_globals.Given as goal
 

@@ -1,11 +1,11 @@
-use Rattle.std.proofs.Common.{◌≡◌, ◌<◌, ◌≤◌, ◌+◌, ◌-◌, ℕ, suc, List, [], ◌∷◌, ◌++◌, map, length, Some, None, Ok, refl, sym, ap, ◌∙◌, arith}
+use Rattle.std.proofs.Common.{◌≡◌, ◌-◌, [], ◌∷◌, ◌++◌, map, arith}
 use Rattle.std.proofs.lemmas.Result.{err_from_is_err_and}
 use Rattle.std.proofs.lemmas.List.{map_push}
 use Rattle.hx_tree.specs.declared.token.Mark.TheVariants as mark
 use Rattle.hx_tree.specs.View.{local_of}
-use Rattle.hx_grammar.specs.Reading.{listed, local_at, locals_at}
+use Rattle.hx_grammar.specs.Reading.{listed, local_at}
 use Rattle.hx_parse.proofs.Marks.{behind_shorter}
-use Rattle.hx_parse.proofs.Loops.{goes_begins_listed, listed_no_first, commas_end, commas_go_on, commas_fail}
+use Rattle.hx_parse.proofs.Loops.{listed_no_first, commas_end, commas_go_on, commas_fail}
 use Rattle.hx_parse.proofs.Steps.{locals_zero, locals_is}
 use Rattle.hx_parse.proofs.parser.Parser.locals.Goals as goal
 

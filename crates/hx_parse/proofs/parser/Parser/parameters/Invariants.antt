@@ -1,6 +1,6 @@
-use Rattle.std.proofs.Common.{◌<◌, ◌≤◌, length, map}
+use Rattle.std.proofs.Common.{◌<◌, length, map}
 use Rattle.hx_tree.specs.View.{name_of}
-use Rattle.hx_grammar.specs.Reading.{at_comma, listed, listed_from, param_at}
+use Rattle.hx_grammar.specs.Reading.{at_comma, listed, param_at}
 use Rattle.hx_parse.proofs.Loops.{Goes}
 use Rattle.hx_parse.proofs.parser.Parser.parameters.Given as goal
 

@@ -1,5 +1,4 @@
-use Rattle.std.proofs.Common.{◌≡◌, true, Some, sym, ◌∙◌}
-use Rattle.hx_grammar.specs.Reading.{front, behind, same_mark}
+use Rattle.std.proofs.Common.{sym}
 use Rattle.hx_parse.proofs.Marks.{behind_same}
 use Rattle.hx_parse.proofs.parser.Parser.take.Goals as goal
 
