@@ -29,8 +29,8 @@ abbrev pub GivesAll : {X Y : Type 0} → (X → Y) → Result X ParseError → R
 GivesAll view (Ok x) read = read ≡ Ok (view x)
 GivesAll view (Err e) read = Fails e read
 
-abbrev pub same : {X : Type 0} → X → X
-same x = x
+abbrev pub itself : {X : Type 0} → X → X
+itself x = x
 
 -- the name in a token
 abbrev pub name_in : Token → tree.Name

@@ -1,7 +1,7 @@
 // Why tokens are refused.
 
 ghost use Rattle.std.specs.Prelude.{◌≡◌};
-ghost use Rattle.hx_parse.specs.Refusal.{number_of, pos_of};
+ghost use Rattle.hx_parse.specs.Answer.{number_of, pos_of};
 ghost use Rattle.hx_parse.specs.declared.error.ParseError.TheVariants.{Memory};
 
 use hx_tree::token::Pos;
@@ -13,20 +13,20 @@ use thiserror::Error;
 pub enum ParseError {
     /// 10: the tokens spell no program of any height. The place is that of the first token such that no program begins with
     /// the tokens up to and with it, or just behind the last token.
-    #[error("refused 10 at {}:{}", .0.line, .0.col)]
+    #[error("no program goes on so at {line}:{col}", line = .0.line, col = .0.col)]
     Syntax(Pos),
     /// 11: the tokens spell no program of at most the height limit.
-    #[error("refused 11")]
+    #[error("no program of at most 200 nodes on a path")]
     TooDeep,
     /// 12: there was no memory for the tree.
-    #[error("refused 12")]
+    #[error("out of memory")]
     Memory,
 }
 
 impl ParseError {
     /// The number of the refusal: 10, 11 or 12.
-    pub fn number(&self) -> u32
-        ensures { result ≡ number_of self.now }
+    pub fn number(self) -> u32
+        ensures { result ≡ number_of self }
     {
         match self {
             ParseError::Syntax(_) => 10,
@@ -36,11 +36,11 @@ impl ParseError {
     }
 
     /// The place of the refusal; 10 alone has one.
-    pub fn pos(&self) -> Option<Pos>
-        ensures { result ≡ pos_of self.now }
+    pub fn pos(self) -> Option<Pos>
+        ensures { result ≡ pos_of self }
     {
         match self {
-            ParseError::Syntax(pos) => Some(*pos),
+            ParseError::Syntax(pos) => Some(pos),
             ParseError::TooDeep => None,
             ParseError::Memory => None,
         }

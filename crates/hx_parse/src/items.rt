@@ -3,7 +3,7 @@
 ghost use Rattle.std.specs.Prelude.{◌≡◌, ◌<◌, ◌≤◌, map, length, OnOk};
 ghost use Rattle.hx_tree.specs.View.{name_of, shape_of, global_of, params_of, item_of};
 ghost use Rattle.hx_grammar.specs.Reading.{listed, listed_from, constant_at, values_at, shape_at, global_at, globals_at, param_at, params_at, function_at, int_item_at, void_item_at, item_at, all_of, until_end};
-ghost use Rattle.hx_parse.specs.Gives.{Gives, same};
+ghost use Rattle.hx_parse.specs.Gives.{Gives, itself};
 
 use crate::error::ParseError;
 use crate::parser::Parser;
@@ -16,7 +16,7 @@ impl<'t, 's> Parser<'t, 's> {
     /// A number, with a sign or without.
     #[tactic(auto, unfolding(hx_grammar::specs::Reading::constant_at), using(crate::proofs::Marks::behind_shorter))]
     fn constant(&mut self) -> Result<Constant, ParseError>
-        ensures read { Gives same result self.new (constant_at self.old) }
+        ensures read { Gives itself result self.new (constant_at self.old) }
         ensures shorter { OnOk result (length self.new < length self.old) }
     {
         if self.take(Mark::Minus) {

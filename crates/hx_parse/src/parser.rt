@@ -5,7 +5,7 @@ ghost use Rattle.hx_tree.specs.Lexis as lexis;
 ghost use Rattle.hx_tree.specs.View.{name_of};
 ghost use Rattle.hx_lex.specs.View.{token_of, tokens_of};
 ghost use Rattle.hx_grammar.specs.Reading.{front, behind, expect, name_at, number_at, operator_at};
-ghost use Rattle.hx_parse.specs.Gives.{Gives, GivesRest, same, name_in};
+ghost use Rattle.hx_parse.specs.Gives.{Gives, GivesRest, itself, name_in};
 
 use crate::error::ParseError;
 use crate::operators::{binary_of, layer_of};
@@ -163,7 +163,7 @@ impl<'t, 's> Parser<'t, 's> {
 
     /// Takes a number, which has to be next.
     pub(crate) fn number(&mut self) -> Result<u32, ParseError>
-        ensures read { Gives same result self.new (number_at self.old) }
+        ensures read { Gives itself result self.new (number_at self.old) }
         ensures shorter { OnOk result (length self.new < length self.old) }
     {
         match self.next() {

@@ -1,14 +1,13 @@
 // Whole programs.
 
-ghost use Rattle.std.specs.Prelude.{◌≡◌, ◌≤◌, IfOk, IfErr};
-ghost use Rattle.hx_tree.specs.Tree as tree;
+ghost use Rattle.std.specs.Prelude.{◌≤◌, IfOk, IfErr};
 ghost use Rattle.hx_tree.specs.Grammar.{IsProgram};
 ghost use Rattle.hx_tree.specs.Height.{program_height};
 ghost use Rattle.hx_tree.specs.View.{program_of};
 ghost use Rattle.hx_lex.specs.View.{tokens_of};
 ghost use Rattle.hx_grammar.specs.Reading.{program_at};
 ghost use Rattle.hx_parse.specs.Gives.{GivesAll};
-ghost use Rattle.hx_parse.specs.Refusal.{IsRefused};
+ghost use Rattle.hx_parse.specs.Answer.{NoOthers, Refuses};
 ghost use Rattle.hx_parse.specs.declared.error.ParseError.TheVariants.{TooDeep};
 
 use crate::error::ParseError;
@@ -35,11 +34,11 @@ const NODES_ABOVE: usize = 3;
 /// is linear in the number of tokens, and no recursion goes deeper than the height limit.
 ///
 /// ISO/IEC 9899:2011, 6.5 to 6.9, as far as the language goes.
-#[tactic(auto, using(hx_grammar::proofs::Whole::found, hx_grammar::proofs::Whole::only_one, crate::proofs::Refused::is_refused))]
+#[tactic(auto, using(hx_grammar::proofs::Whole::found, hx_grammar::proofs::Whole::only_one, crate::proofs::Refused::refuses))]
 pub fn parse(alloc: Global, tokens: &[Token]) -> Result<Program, ParseError>
     ensures spelled { IfOk result (λ p. IsProgram (program_of p) (tokens_of tokens.now) × (program_height (program_of p) ≤ HEIGHT_LIMIT)) }
-    ensures only { IfOk result (λ p. (q : tree.Program) → IsProgram q (tokens_of tokens.now) → q ≡ program_of p) }
-    ensures refused { IfErr result (IsRefused (tokens_of tokens.now)) }
+    ensures only { IfOk result (λ p. NoOthers (tokens_of tokens.now) (program_of p)) }
+    ensures refused { IfErr result (Refuses (tokens_of tokens.now)) }
 {
     match program(alloc, tokens, HEIGHT_LIMIT - NODES_ABOVE) {
         Ok(found) => Ok(found),
@@ -50,10 +49,10 @@ pub fn parse(alloc: Global, tokens: &[Token]) -> Result<Program, ParseError>
 
 /// Why tokens are refused that went too deep: read with room for one node more, they may go wrong right behind the beginning of a
 /// tree that is not too high.
-#[tactic(auto, using(crate::proofs::Refused::is_refused))]
+#[tactic(auto, using(crate::proofs::Refused::refuses))]
 fn too_deep(alloc: Global, tokens: &[Token]) -> ParseError
-    requires { IsRefused (tokens_of tokens.now) TooDeep }
-    ensures { IsRefused (tokens_of tokens.now) result }
+    requires { Refuses (tokens_of tokens.now) TooDeep }
+    ensures { Refuses (tokens_of tokens.now) result }
 {
     match program(alloc, tokens, HEIGHT_LIMIT - NODES_ABOVE + 1) {
         Err(ParseError::Syntax(pos)) => ParseError::Syntax(pos),

@@ -2,6 +2,7 @@
 
 use crate::{ParseError, parse};
 use hx_lex::tokens;
+use hx_tree::token::Pos;
 use hx_tree::tree::{Item, Part, Program, Stmt};
 use std::alloc::{AllocError, Global};
 use std::test::Fail;
@@ -272,8 +273,27 @@ fn deep_sources_end_in_a_refusal(rt: HostRuntime) -> Result<(), Fail> {
 }
 
 #[test]
-fn refusals_have_numbers(rt: HostRuntime) {
-    assert_eq!(rt; ParseError::TooDeep.number(), 11);
-    assert_eq!(rt; ParseError::Memory.number(), 12);
-    assert_eq!(rt; ParseError::Memory.pos(), None);
+fn refusals_have_numbers_and_texts(rt: HostRuntime) -> Result<(), Fail> {
+    let pos = Pos { line: 3, col: 14 };
+    let rows = [
+        (
+            ParseError::Syntax(pos),
+            10,
+            Some(pos),
+            "no program goes on so at 3:14",
+        ),
+        (
+            ParseError::TooDeep,
+            11,
+            None,
+            "no program of at most 200 nodes on a path",
+        ),
+        (ParseError::from(AllocError), 12, None, "out of memory"),
+    ];
+    for (refusal, number, place, text) in rows {
+        assert_eq!(rt; refusal.number(), number);
+        assert_eq!(rt; refusal.pos(), place);
+        assert_eq!(rt; format!(in rt.alloc(); "{refusal}")?.as_str(), text);
+    }
+    Ok(())
 }
