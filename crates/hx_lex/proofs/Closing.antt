@@ -1,6 +1,6 @@
 -- Where a comment ends.
 use Rattle.std.proofs.Common.{◌≡◌, ℕ, zero, suc, ◌+◌, ◌<◌, ◌≤◌, Bool, true, false, cond, List, [], ◌∷◌, length, drop, get_or, Option, Some, None, refl, sym, ap, subst, ◌∙◌, arith}
-use Rattle.std.specs.Prelude.{◌&&◌, ◌==◌, option_map}
+use Rattle.std.specs.Prelude.{option_map}
 use Rattle.hx_tree.specs.Lexis.{close_len}
 use Rattle.hx_lex.specs.Reading.{is_close}
 
@@ -58,7 +58,7 @@ goes_on bytes i so_far lt miss =
     let miss' : is_close (get_or bytes i 0) (get_or bytes (suc i) 0) ≡ false = subst (λ (k : ℕ). is_close (get_or bytes i 0) (get_or bytes k 0) ≡ false) e miss in
     let here : close_len (drop i bytes) ≡ past (close_len (drop (suc i) bytes)) = rw (two_first bytes i (omega arith), miss', one_first bytes i (omega arith)) refl in
     let behind : plus (suc i) (close_len (drop (suc i) bytes)) ≡ plus i (close_len (drop i bytes)) =
-        rw (here, plus-past i (close_len (drop (suc i) bytes))) (subst (λ (j : ℕ). plus (suc i) (close_len (drop (suc i) bytes)) ≡ plus j (close_len (drop (suc i) bytes))) (sym e) refl) in
+    rw (here, plus-past i (close_len (drop (suc i) bytes))) (subst (λ (j : ℕ). plus (suc i) (close_len (drop (suc i) bytes)) ≡ plus j (close_len (drop (suc i) bytes))) (sym e) refl) in
     subst (λ (j : ℕ). plus j (close_len (drop j bytes)) ≡ plus i (close_len (drop i bytes))) (sym e) behind ∙ so_far
 
 pub ends_never : (bytes : List ℕ) (i : ℕ) → plus i (close_len (drop i bytes)) ≡ close_len bytes → length bytes ≤ i + 1 → close_len bytes ≡ None

@@ -1,12 +1,12 @@
 -- The loop of the lexer: tokens so far, and going on where it stands gives the whole.
 use Rattle.std.proofs.Common.{◌≡◌, ℕ, zero, suc, ◌+◌, ◌-◌, ◌<◌, ◌≤◌, List, [], ◌∷◌, ◌++◌, length, take, drop, Option, Some, None, Result, Ok, Err, refl, sym, ap, ◌∙◌, append_assoc, drop-drop, arith}
+use Rattle.std.specs.Prelude.{IsErrAnd}
 use Rattle.std.proofs.lemmas.List.{length-drop, append-nil}
 use Rattle.hx_tree.specs.declared.token.Pos.{Pos}
 use Rattle.hx_tree.specs.declared.token.Kind.{Kind}
 use Rattle.hx_tree.specs.Lexis.{Token, with_token, first_place, place_after}
 use Rattle.hx_lex.specs.declared.piece.Piece.{Piece}
 use Rattle.hx_lex.specs.declared.error.LexError.{LexError}
-use Rattle.std.specs.Prelude.{IsErrAnd}
 use Rattle.hx_lex.specs.declared.error.LexError.TheVariants as error
 use Rattle.hx_lex.specs.Reading.{piece_at, ◌>>=◌, lex_at, Gives}
 use Rattle.hx_lex.proofs.Pieces.{piece_len}
@@ -58,7 +58,7 @@ lexed_goes_on bytes tokens pos at p so_far lt e = go so_far.fuel so_far.enough s
     go (suc fuel) le w =
         let one = turn_is fuel pos (drop at bytes) p some e in
         let two : (lex_at (suc fuel) pos (drop at bytes) >>= λ more. Ok (tokens ++ more)) ≡ (lex_at fuel (place_after pos (take p.len (drop at bytes))) (drop p.len (drop at bytes)) >>= λ more. Ok ((tokens ++ with_token p.kind (take p.len (drop at bytes)) pos []) ++ more))
-            = rw one (regroup tokens p.kind (take p.len (drop at bytes)) pos (lex_at fuel (place_after pos (take p.len (drop at bytes))) (drop p.len (drop at bytes)))) in
+        = rw one (regroup tokens p.kind (take p.len (drop at bytes)) pos (lex_at fuel (place_after pos (take p.len (drop at bytes))) (drop p.len (drop at bytes)))) in
         record { fuel = fuel; enough = omega (arith, size.0, some, length-drop at bytes, length-drop (at + p.len) bytes); reads = rw (← rest) (sym two ∙ w) }
 
 pub lexed_fails : (bytes : List ℕ) (tokens : List Token) (pos : Pos) (at : ℕ) (f : LexError) → Lexed bytes tokens pos at → at < length bytes → piece_at pos (drop at bytes) ≡ Err f → lex_at (length bytes) first_place bytes ≡ Err f

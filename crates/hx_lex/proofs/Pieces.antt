@@ -1,5 +1,5 @@
 -- A piece that is read stands there, a piece that stands there is read, and where reading fails there is a fault.
-use Rattle.std.proofs.Common.{◌≡◌, ℕ, ◌+◌, ◌<◌, ◌≤◌, Bool, true, false, cond, List, [], ◌∷◌, ◌++◌, length, take, drop, Option, Some, None, Result, Ok, Err, refl, sym, ap, subst, ◌∙◌, arith}
+use Rattle.std.proofs.Common.{◌≡◌, ℕ, ◌+◌, ◌<◌, ◌≤◌, Bool, true, false, cond, List, ◌++◌, length, take, drop, Option, Some, None, Result, Ok, Err, refl, sym, subst, arith}
 use Rattle.std.specs.Prelude.{nat_le, take_while}
 use Rattle.std.proofs.lemmas.List.{take_at, length-take, length-drop}
 use Rattle.std.proofs.lemmas.Bool.{leb-true, le-leb, leb-false}
@@ -39,21 +39,21 @@ word_is : (pos : Pos) (bytes : List ℕ) (p : Piece) → 0 < length (word_run by
     → of_word pos (length (word_run bytes)) k ≡ Ok p → IsRead bytes p
 word_is pos bytes p some c (Some m) key e =
     subst (IsRead bytes) (is_done (piece (Some (kind.Mark m)) (length (word_run bytes))) p e)
-      (rw c (sym (run_front is_word_byte bytes), key), some, run_len is_word_byte bytes)
+    (rw c (sym (run_front is_word_byte bytes), key), some, run_len is_word_byte bytes)
 word_is pos bytes p some c None key e = go (nat_le (length (word_run bytes)) NAME_LIMIT) refl e
   where
     go : (t : Bool) → nat_le (length (word_run bytes)) NAME_LIMIT ≡ t → cond {A = Result Piece LexError} t (token kind.Name (length (word_run bytes))) (Err (error.LongName pos)) ≡ Ok p → IsRead bytes p
     go false t e = absurd cc
     go true t e =
         subst (IsRead bytes) (is_done (piece (Some kind.Name) (length (word_run bytes))) p e)
-          (rw c (sym (run_front is_word_byte bytes), key, omega (arith, leb-true (length (word_run bytes)) NAME_LIMIT t, length-take (length (word_run bytes)) bytes)), some, run_len is_word_byte bytes)
+        (rw c (sym (run_front is_word_byte bytes), key, omega (arith, leb-true (length (word_run bytes)) NAME_LIMIT t, length-take (length (word_run bytes)) bytes)), some, run_len is_word_byte bytes)
 
 number_is : (pos : Pos) (bytes : List ℕ) (p : Piece) → 0 < length (word_run bytes) → class_at bytes ≡ Digits → (v : Option ℕ) → constant_of (take (length (word_run bytes)) bytes) ≡ v
     → of_number pos (length (word_run bytes)) v ≡ Ok p → IsRead bytes p
 number_is pos bytes p some c None value e = absurd cc
 number_is pos bytes p some c (Some n) value e =
     subst (IsRead bytes) (is_done (piece (Some (kind.Number n)) (length (word_run bytes))) p e)
-      (rw c (sym (run_front is_word_byte bytes), value), some, run_len is_word_byte bytes)
+    (rw c (sym (run_front is_word_byte bytes), value), some, run_len is_word_byte bytes)
 
 mark_is : (pos : Pos) (bytes : List ℕ) (p : Piece) → class_at bytes ≡ Other → (o : Option (List ℕ × Mark)) → punctuator_at bytes ≡ o → of_punctuator pos o ≡ Ok p → IsRead bytes p
 mark_is pos bytes p c None at e = absurd cc
@@ -151,7 +151,7 @@ long_name pos bytes e c None key h = go (nat_le (length (word_run bytes)) NAME_L
     go true t h = absurd cc
     go false t h =
         subst (IsFaulty pos bytes) (has_failed (error.LongName pos) e h)
-          (rw c (rw run_front at key, omega (arith, leb-false (length (word_run bytes)) NAME_LIMIT t)), refl)
+        (rw c (rw run_front at key, omega (arith, leb-false (length (word_run bytes)) NAME_LIMIT t)), refl)
 
 bad_constant : (pos : Pos) (bytes : List ℕ) (e : LexError) → class_at bytes ≡ Digits → (v : Option ℕ) → constant_of (take (length (word_run bytes)) bytes) ≡ v
     → of_number pos (length (word_run bytes)) v ≡ Err e → IsFaulty pos bytes e

@@ -1,5 +1,5 @@
 -- The longest fronts of bytes that pass a test, what the first two bytes tell, and which punctuator is found.
-use Rattle.std.proofs.Common.{◌≡◌, ℕ, zero, suc, ◌+◌, ◌<◌, ◌≤◌, Bool, true, false, cond, List, [], ◌∷◌, ◌++◌, length, take, drop, get_or, Option, Some, None, refl, sym, ap, subst, ◌∙◌, arith}
+use Rattle.std.proofs.Common.{◌≡◌, ℕ, zero, suc, ◌<◌, ◌≤◌, Bool, true, false, cond, List, [], ◌∷◌, ◌++◌, length, take, drop, get_or, Option, Some, refl, ap, subst, ◌∙◌, arith}
 use Rattle.std.specs.Prelude.{◌&&◌, ◌||◌, ◌==◌, nat_eq, nat_lt, find, take_while}
 use Rattle.std.specs.List.{list_all, starts_with}
 use Rattle.std.proofs.lemmas.List.{take_at, length-take, length-append}
@@ -144,7 +144,6 @@ find_among {X = X} p q (y ∷ ys) x every e = go (find_among p q ys x (both_true
 
 abbrev Entry : Type 0
 Entry = List ℕ × Mark
-
 
 -- a punctuator that is found isn't empty, and the bytes begin with it
 pub punctuator_is : (bytes text : List ℕ) (m : Mark) → punctuator_at bytes ≡ Some (text, m) → (0 < length text) × (take (length text) bytes ≡ text) × (length text ≤ length bytes)

@@ -1,5 +1,5 @@
 -- The bytes fall into pieces in one way, and the reading finds it, or the first fault.
-use Rattle.std.proofs.Common.{◌≡◌, ◌⊎◌, inl, inr, ℕ, zero, suc, ◌+◌, ◌<◌, ◌≤◌, List, [], ◌∷◌, ◌++◌, length, take, drop, Option, Some, None, Result, Ok, Err, refl, sym, ap, ◌∙◌, arith}
+use Rattle.std.proofs.Common.{◌≡◌, ◌⊎◌, inl, inr, ℕ, zero, suc, ◌<◌, ◌≤◌, List, [], ◌∷◌, ◌++◌, length, take, drop, Some, Result, Ok, Err, refl, sym, ap, ◌∙◌, arith}
 use Rattle.std.proofs.lemmas.List.{take-append-drop, take_at, drop_at, length-take, length-append, length-drop}
 use Rattle.hx_tree.specs.declared.token.Pos.{Pos}
 use Rattle.hx_tree.specs.Lexis.{class_at, Falls, Token, with_token, tokens_of, first_place, place_after, AreTokens}
@@ -8,7 +8,7 @@ use Rattle.hx_lex.specs.declared.piece.Piece.{Piece}
 use Rattle.hx_lex.specs.declared.error.LexError.{LexError}
 use Rattle.hx_lex.specs.declared.error.LexError.TheVariants.{TooLong}
 use Rattle.hx_lex.specs.Reading.{piece_at, ◌>>=◌, lex_at}
-use Rattle.hx_lex.specs.Answer.{NoOthers, HasNoTokens, Begins, place_behind, IsFault, IsFirstFault, pos_of}
+use Rattle.hx_lex.specs.Answer.{NoOthers, HasNoTokens, Begins, place_after_pieces, IsFault, IsFirstFault, pos_of}
 use Rattle.hx_lex.proofs.Pieces.{piece_is, piece_len, piece_again, piece_fails}
 
 -- ---- one step after the other
@@ -49,9 +49,11 @@ all_found (suc fuel) pos (b ∷ bs) tokens e =
     let is = piece_is pos (b ∷ bs) first.0 (omega arith) first.1 in
     let others = all_found fuel (place_after pos (take first.0.len (b ∷ bs))) (drop first.0.len (b ∷ bs)) later.0 later.1 in
     let whole : b ∷ bs ≡ take first.0.len (b ∷ bs) ++ drop first.0.len (b ∷ bs) = sym (take-append-drop first.0.len (b ∷ bs)) in
-    let some : 0 < length (take first.0.len (b ∷ bs)) = omega (arith, length-take first.0.len (b ∷ bs), is.1, is.2) in
-    ((first.0.kind, take first.0.len (b ∷ bs)) ∷ others.0, (drop first.0.len (b ∷ bs), whole, some, is.0, others.1),
-     sym (is_read (with_token first.0.kind (take first.0.len (b ∷ bs)) pos later.0) tokens later.2) ∙ ap (λ s. with_token first.0.kind (take first.0.len (b ∷ bs)) pos s) others.2)
+    let some : 0 < length (take first.0.len (b ∷ bs)) = omega (arith, length-take first.0.len (b ∷ bs), is.1, is.2) in (
+      (first.0.kind, take first.0.len (b ∷ bs)) ∷ others.0,
+      (drop first.0.len (b ∷ bs), whole, some, is.0, others.1),
+      sym (is_read (with_token first.0.kind (take first.0.len (b ∷ bs)) pos later.0) tokens later.2) ∙ ap (λ s. with_token first.0.kind (take first.0.len (b ∷ bs)) pos s) others.2,
+    )
 
 -- ---- what is there is read
 
@@ -80,7 +82,7 @@ all_again (p ∷ ps) (suc fuel) pos bytes (rest, e, some, is, falls) le =
 abbrev FailsFrom : Pos → List ℕ → LexError → Type 0
 FailsFrom pos bytes e =
     (pieces : List lexis.Piece) × (rest : List ℕ) × Begins pieces bytes rest × (0 < length rest)
-    × IsFault e (class_at rest) rest × (pos_of e ≡ Some (place_behind pos pieces))
+    × IsFault e (class_at rest) rest × (pos_of e ≡ Some (place_after_pieces pos pieces))
 
 fails_later : (pos : Pos) (bytes : List ℕ) (p : Piece) (e : LexError) → 0 < length bytes → piece_at pos bytes ≡ Ok p → FailsFrom (place_after pos (take p.len bytes)) (drop p.len bytes) e → FailsFrom pos bytes e
 fails_later pos bytes p e some here (pieces, rest, begins, left, fault, place) =
@@ -95,7 +97,7 @@ all_fails fuel pos [] e le h = absurd cc
 all_fails zero pos (b ∷ bs) e le h = absurd (omega arith)
 all_fails (suc fuel) pos (b ∷ bs) e le h =
     go (λ (p : Piece) (small : length (drop p.len (b ∷ bs)) ≤ fuel). all_fails fuel (place_after pos (take p.len (b ∷ bs))) (drop p.len (b ∷ bs)) e small)
-      (bind_err (piece_at pos (b ∷ bs)) (turn fuel pos (b ∷ bs)) e h)
+    (bind_err (piece_at pos (b ∷ bs)) (turn fuel pos (b ∷ bs)) e h)
   where
     later_fails : (p : Piece) → (length (drop p.len (b ∷ bs)) ≤ fuel → lex_at fuel (place_after pos (take p.len (b ∷ bs))) (drop p.len (b ∷ bs)) ≡ Err e → FailsFrom (place_after pos (take p.len (b ∷ bs))) (drop p.len (b ∷ bs)) e)
         → piece_at pos (b ∷ bs) ≡ Ok p → turn fuel pos (b ∷ bs) p ≡ Err e → FailsFrom pos (b ∷ bs) e

@@ -53,9 +53,9 @@ Begins (piece ∷ pieces) bytes rest =
     (behind : List ℕ) × (bytes ≡ piece.1 ++ behind) × (0 < length piece.1) × IsPiece piece.0 piece.1 bytes × Begins pieces behind rest
 
 -- the place behind pieces
-abbrev pub place_behind : Pos → List Piece → Pos
-place_behind pos [] = pos
-place_behind pos (piece ∷ pieces) = place_behind (place_after pos piece.1) pieces
+abbrev pub place_after_pieces : Pos → List Piece → Pos
+place_after_pieces pos [] = pos
+place_after_pieces pos (piece ∷ pieces) = place_after_pieces (place_after pos piece.1) pieces
 
 -- what stands in front of the bytes is no piece, for this reason
 abbrev pub IsFault : LexError → Class → List ℕ → Type 0
@@ -69,7 +69,7 @@ IsFault _ _ bytes = ⊥
 abbrev pub IsFirstFault : List ℕ → LexError → Type 0
 IsFirstFault source e =
     (pieces : List Piece) × (rest : List ℕ) × Begins pieces source rest × (0 < length rest)
-    × IsFault e (class_at rest) rest × (pos_of e ≡ Some (place_behind first_place pieces))
+    × IsFault e (class_at rest) rest × (pos_of e ≡ Some (place_after_pieces first_place pieces))
 
 -- what a refusal means: of the first four, that the source has no tokens, and where it goes wrong first
 abbrev pub Refuses : List ℕ → LexError → Type 0

@@ -77,3 +77,53 @@ impl<T: Drop> From<AllocFailed<T>> for LexError {
         LexError::Memory
     }
 }
+
+#[cfg(test)]
+mod tests {
+    use super::*;
+    use std::test::Fail;
+
+    #[test]
+    fn numbers_places_and_texts(rt: HostRuntime) -> Result<(), Fail> {
+        let pos = Pos { line: 3, col: 14 };
+        let all = [
+            (
+                LexError::ForeignByte(pos),
+                1,
+                Some(pos),
+                "a byte that begins no token at 3:14",
+            ),
+            (
+                LexError::BadConstant(pos),
+                2,
+                Some(pos),
+                "no constant at 3:14",
+            ),
+            (
+                LexError::OpenComment(pos),
+                3,
+                Some(pos),
+                "a comment without an end at 3:14",
+            ),
+            (
+                LexError::LongName(pos),
+                4,
+                Some(pos),
+                "a name of more than 63 bytes at 3:14",
+            ),
+            (
+                LexError::TooLong,
+                5,
+                None,
+                "a source of more than 65536 bytes",
+            ),
+            (LexError::from(AllocError), 6, None, "out of memory"),
+        ];
+        for (error, number, place, text) in all {
+            assert_eq!(rt; error.number(), number);
+            assert_eq!(rt; error.pos(), place);
+            assert_eq!(rt; format!(in rt.alloc(); "{error}")?.as_str(), text);
+        }
+        Ok(())
+    }
+}

@@ -14,6 +14,9 @@ use hx_tree::limits::SOURCE_LIMIT;
 use hx_tree::token::{Kind, Pos};
 use std::alloc::{AllocError, Global};
 
+#[cfg(test)]
+mod tests;
+
 /// The tokens of a source: white space and comments stand between them, and each is the longest that can stand
 /// where it begins (ISO/IEC 9899:2011, 6.4, paragraph 4). Their spans rise, and a token's text is the source's slice
 /// at its span.
@@ -29,6 +32,7 @@ pub fn tokens<'s>(alloc: Global, source: &'s [u8]) -> Result<Vec<Token<'s>>, Lex
     ensures only { IfOk result (λ v. NoOthers source.now (tokens_of v.items)) }
     ensures cut { IfOk result (λ v. AreCut source.now 0 v.items (length source.now)) }
     ensures refused { IfErr result (λ e. Refuses source.now e) }
+    ensures short { OnOk result (length source.now ≤ SOURCE_LIMIT) }
     ensures long { (result ≡ Err LexError.TooLong) ↔ (SOURCE_LIMIT < length source.now) }
 {
     if source.len() > SOURCE_LIMIT {
@@ -69,12 +73,10 @@ fn push_token<'s>(
     pos: Pos,
 ) -> Result<(), AllocError>
     ensures tokens { OnOk result (tokens_of tokens.new.items ≡ tokens_of tokens.old.items ++ with_token kind text.now pos []) }
-    ensures cut {
-        OnOk result (
-            (source : List ℕ) → span.start < span.end → text.now ≡ slice_range source span.start span.end
-            → pos ≡ lexis.place_after first_place (take span.start source)
-            → AreCut source 0 tokens.old.items span.start → AreCut source 0 tokens.new.items span.end)
-    }
+    ensures cut { OnOk result (
+        (source : List ℕ) → span.start < span.end → text.now ≡ slice_range source span.start span.end
+        → pos ≡ lexis.place_after first_place (take span.start source)
+        → AreCut source 0 tokens.old.items span.start → AreCut source 0 tokens.new.items span.end) }
 {
     if let Some(kind) = kind {
         tokens.push(Token {

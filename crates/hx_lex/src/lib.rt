@@ -1,4 +1,6 @@
-//! The tokens of a source.
+//! The lexer: from the bytes of a source to its tokens, with their texts, spans and places.
+//! `specs/Answer.antt` says what an answer means, over the tokens that hx_tree's `Lexis` defines;
+//! `specs/Reading.antt` is the lexer as a function on lists.
 #![tactic(auto)]
 
 mod byte;

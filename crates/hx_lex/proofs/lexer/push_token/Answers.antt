@@ -1,6 +1,5 @@
-use Rattle.std.proofs.Common.{◌≡◌, ◌<◌, List, [], ◌∷◌, ◌++◌, take}
 use Rattle.hx_lex.specs.declared.token.Token.{Token}
-use Rattle.hx_lex.specs.Answer.{AreCut, IsCut}
+use Rattle.hx_lex.specs.Answer.{IsCut}
 use Rattle.hx_lex.proofs.Cut.{cut_goes_on}
 use Rattle.hx_lex.proofs.lexer.push_token.Goals as goal
 

@@ -1,10 +1,8 @@
-use Rattle.std.proofs.Common.{◌≡◌, ◌<◌, ◌≤◌, ◌+◌, ◌-◌, List, [], ◌∷◌, ◌++◌, length, take, drop, Ok, Err, refl, sym, ap, subst, ◌∙◌, arith, rules, length-drop, length-take}
-use Rattle.std.specs.Prelude.{slice_range}
+use Rattle.std.proofs.Common.{◌≡◌, ◌<◌, ◌≤◌, ◌+◌, ◌-◌, length, take, drop, Ok, Err, refl, sym, ◌∙◌, arith, length-drop, length-take}
 use Rattle.hx_tree.specs.Lexis as lexis
 use Rattle.hx_lex.specs.View.{tokens_of}
 use Rattle.hx_lex.specs.Reading.{piece_at, lex_at}
-use Rattle.hx_lex.specs.Answer.{AreCut}
-use Rattle.hx_lex.proofs.Loop.{Lexed, lexed_goes_on, lexed_fails, lexed_ends, tail_is, passes_on}
+use Rattle.hx_lex.proofs.Loop.{lexed_goes_on, lexed_fails, lexed_ends, tail_is, passes_on}
 use Rattle.hx_lex.proofs.Cut.{place_goes_on}
 use Rattle.hx_lex.proofs.lexer.read.Goals as goal
 

@@ -1,4 +1,4 @@
-use Rattle.std.proofs.Common.{◌≡◌, ◌≤◌, ◌<◌, ◌-◌, drop, length}
+use Rattle.std.proofs.Common.{◌≡◌, ◌≤◌, ◌-◌, drop, length}
 use Rattle.hx_tree.specs.Lexis.{close_len}
 use Rattle.hx_lex.proofs.Closing.{plus}
 use Rattle.hx_lex.proofs.piece.close_len.Given as goal

@@ -1,4 +1,4 @@
-use Rattle.std.proofs.Common.{◌≡◌, ◌≤◌, ◌<◌, drop, length}
+use Rattle.std.proofs.Common.{◌≡◌, ◌≤◌, drop}
 use Rattle.hx_tree.specs.Lexis.{digits}
 use Rattle.hx_lex.proofs.piece.constant_of.Given as goal
 

@@ -1,0 +1,366 @@
+// Sources and their tokens, worked out by hand from the language's rules.
+
+use super::*;
+use hx_tree::token::Mark;
+use std::test::Fail;
+
+const KEYWORDS: [(&[u8], Mark); 13] = [
+    (b"int", Mark::Int),
+    (b"void", Mark::Void),
+    (b"if", Mark::If),
+    (b"else", Mark::Else),
+    (b"while", Mark::While),
+    (b"for", Mark::For),
+    (b"pwhile", Mark::MarkedWhile),
+    (b"pfor", Mark::MarkedFor),
+    (b"break", Mark::Break),
+    (b"continue", Mark::Continue),
+    (b"return", Mark::Return),
+    (b"print", Mark::Print),
+    (b"emit", Mark::Emit),
+];
+
+const PUNCTUATORS: [(&[u8], Mark); 41] = [
+    (b"(", Mark::OpenParen),
+    (b")", Mark::CloseParen),
+    (b"{", Mark::OpenBrace),
+    (b"}", Mark::CloseBrace),
+    (b"[", Mark::OpenBracket),
+    (b"]", Mark::CloseBracket),
+    (b",", Mark::Comma),
+    (b";", Mark::Semicolon),
+    (b"=", Mark::Assign),
+    (b"+", Mark::Plus),
+    (b"-", Mark::Minus),
+    (b"*", Mark::Times),
+    (b"/", Mark::Divide),
+    (b"%", Mark::Remainder),
+    (b"&", Mark::Ampersand),
+    (b"|", Mark::Bar),
+    (b"^", Mark::Caret),
+    (b"~", Mark::Tilde),
+    (b"!", Mark::Exclamation),
+    (b"<", Mark::Less),
+    (b">", Mark::Greater),
+    (b"++", Mark::Increment),
+    (b"--", Mark::Decrement),
+    (b"<<", Mark::ShiftLeft),
+    (b">>", Mark::ShiftRight),
+    (b"<=", Mark::LessEqual),
+    (b">=", Mark::GreaterEqual),
+    (b"==", Mark::Equal),
+    (b"!=", Mark::NotEqual),
+    (b"&&", Mark::AndAnd),
+    (b"||", Mark::BarBar),
+    (b"+=", Mark::PlusAssign),
+    (b"-=", Mark::MinusAssign),
+    (b"*=", Mark::TimesAssign),
+    (b"/=", Mark::DivideAssign),
+    (b"%=", Mark::RemainderAssign),
+    (b"&=", Mark::AmpersandAssign),
+    (b"|=", Mark::BarAssign),
+    (b"^=", Mark::CaretAssign),
+    (b"<<=", Mark::ShiftLeftAssign),
+    (b">>=", Mark::ShiftRightAssign),
+];
+
+/// Two punctuators with nothing between them that are read as others: the two, and what is read.
+const MERGED: [(&[u8], &[u8], &[u8]); 52] = [
+    (b"=", b"=", b"== "),
+    (b"=", b"==", b"== = "),
+    (b"+", b"=", b"+= "),
+    (b"+", b"==", b"+= = "),
+    (b"+", b"+", b"++ "),
+    (b"+", b"++", b"++ + "),
+    (b"+", b"+=", b"++ = "),
+    (b"-", b"=", b"-= "),
+    (b"-", b"==", b"-= = "),
+    (b"-", b"-", b"-- "),
+    (b"-", b"--", b"-- - "),
+    (b"-", b"-=", b"-- = "),
+    (b"*", b"=", b"*= "),
+    (b"*", b"==", b"*= = "),
+    (b"/", b"=", b"/= "),
+    (b"/", b"==", b"/= = "),
+    (b"/", b"/", b""),
+    (b"/", b"/=", b""),
+    (b"/", b"*", b"open comment"),
+    (b"/", b"*=", b"open comment"),
+    (b"%", b"=", b"%= "),
+    (b"%", b"==", b"%= = "),
+    (b"&", b"=", b"&= "),
+    (b"&", b"==", b"&= = "),
+    (b"&", b"&", b"&& "),
+    (b"&", b"&&", b"&& & "),
+    (b"&", b"&=", b"&& = "),
+    (b"|", b"=", b"|= "),
+    (b"|", b"==", b"|= = "),
+    (b"|", b"|", b"|| "),
+    (b"|", b"||", b"|| | "),
+    (b"|", b"|=", b"|| = "),
+    (b"^", b"=", b"^= "),
+    (b"^", b"==", b"^= = "),
+    (b"!", b"=", b"!= "),
+    (b"!", b"==", b"!= = "),
+    (b"<", b"=", b"<= "),
+    (b"<", b"==", b"<= = "),
+    (b"<", b"<", b"<< "),
+    (b"<", b"<<", b"<< < "),
+    (b"<", b"<=", b"<<= "),
+    (b"<", b"<<=", b"<< <= "),
+    (b">", b"=", b">= "),
+    (b">", b"==", b">= = "),
+    (b">", b">", b">> "),
+    (b">", b">>", b">> > "),
+    (b">", b">=", b">>= "),
+    (b">", b">>=", b">> >= "),
+    (b"<<", b"=", b"<<= "),
+    (b"<<", b"==", b"<<= = "),
+    (b">>", b"=", b">>= "),
+    (b">>", b"==", b">>= = "),
+];
+
+/// The texts of a source's tokens, with a blank behind each, or that a comment is open.
+fn texts(alloc: Global, source: &[u8]) -> Result<Vec<u8>, LexError> {
+    let mut all = Vec::new(alloc);
+    match tokens(alloc, source) {
+        Ok(tokens) => {
+            for token in &tokens {
+                all.extend_from_slice(token.text)?;
+                all.push(b' ')?;
+            }
+        }
+        Err(LexError::OpenComment(_)) => all.extend_from_slice(b"open comment")?,
+        Err(e) => return Err(e),
+    }
+    Ok(all)
+}
+
+fn is_same(a: &[u8], b: &[u8]) -> bool {
+    a == b
+}
+
+/// What two punctuators with nothing between them are read as.
+fn pair_texts(alloc: Global, first: &[u8], second: &[u8]) -> Result<Vec<u8>, LexError> {
+    let mut all = Vec::new(alloc);
+    for entry in &MERGED {
+        if is_same(entry.0, first) && is_same(entry.1, second) {
+            all.extend_from_slice(entry.2)?;
+            return Ok(all);
+        }
+    }
+    all.extend_from_slice(first)?;
+    all.push(b' ')?;
+    all.extend_from_slice(second)?;
+    all.push(b' ')?;
+    Ok(all)
+}
+
+/// The number of a refusal, and its line and column, or zeros where there are none.
+fn refusal(alloc: Global, source: &[u8]) -> (u32, u32, u32) {
+    match tokens(alloc, source) {
+        Ok(_) => (0, 0, 0),
+        Err(e) => match e.pos() {
+            Some(pos) => (e.number(), pos.line, pos.col),
+            None => (e.number(), 0, 0),
+        },
+    }
+}
+
+/// That a source is one token of this kind.
+fn is_one(alloc: Global, source: &[u8], kind: Kind) -> bool {
+    match tokens(alloc, source) {
+        Ok(tokens) => match tokens.as_slice() {
+            [token] => {
+                token.kind == kind
+                    && token.text == source
+                    && token.span
+                        == Span {
+                            start: 0,
+                            end: source.len(),
+                        }
+                    && token.pos == Pos { line: 1, col: 1 }
+            }
+            _ => false,
+        },
+        Err(_) => false,
+    }
+}
+
+#[test]
+fn each_mark_alone(rt: HostRuntime) {
+    for entry in &KEYWORDS {
+        assert!(rt;
+            is_one(rt.alloc(), entry.0, Kind::Mark(entry.1)),
+            "{:?}",
+            entry.0
+        );
+    }
+    for entry in &PUNCTUATORS {
+        assert!(rt;
+            is_one(rt.alloc(), entry.0, Kind::Mark(entry.1)),
+            "{:?}",
+            entry.0
+        );
+    }
+}
+
+#[test]
+fn each_mark_before_each_other(rt: HostRuntime) -> Result<(), Fail> {
+    for first in &PUNCTUATORS {
+        for second in &PUNCTUATORS {
+            let mut source = Vec::new(rt.alloc());
+            source.extend_from_slice(first.0)?;
+            source.extend_from_slice(second.0)?;
+            let read = texts(rt.alloc(), source.as_slice())?;
+            let wanted = pair_texts(rt.alloc(), first.0, second.0)?;
+            assert_eq!(rt; read.as_slice(), wanted.as_slice());
+        }
+    }
+    Ok(())
+}
+
+#[test]
+fn names_and_keywords(rt: HostRuntime) {
+    for name in [
+        b"x".as_slice(),
+        b"_",
+        b"intx",
+        b"_int",
+        b"Int",
+        b"pfor2",
+        b"If",
+        b"i_1",
+    ] {
+        assert!(rt; is_one(rt.alloc(), name, Kind::Name), "{name:?}");
+    }
+    assert!(rt; is_one(rt.alloc(), [b'a'; 63].as_slice(), Kind::Name));
+    assert_eq!(rt; refusal(rt.alloc(), [b'a'; 64].as_slice()), (4, 1, 1));
+    assert_eq!(rt;
+        refusal(
+            rt.alloc(),
+            b"int aaaaaaaaaaaaaaaaaaaaaaaaaaaaaaaaaaaaaaaaaaaaaaaaaaaaaaaaaaaaaaaa;"
+        ),
+        (4, 1, 5)
+    );
+}
+
+#[test]
+fn constants(rt: HostRuntime) {
+    assert!(rt; is_one(rt.alloc(), b"0", Kind::Number(0)));
+    assert!(rt; is_one(rt.alloc(), b"10", Kind::Number(10)));
+    assert!(rt; is_one(rt.alloc(), b"2147483647", Kind::Number(2147483647)));
+    for text in [
+        b"2147483648".as_slice(),
+        b"99999999999999999999",
+        b"08",
+        b"00",
+        b"0x1",
+        b"1a",
+        b"1_",
+        b"0_",
+    ] {
+        assert_eq!(rt; refusal(rt.alloc(), text), (2, 1, 1), "{text:?}");
+    }
+    assert_eq!(rt; refusal(rt.alloc(), b"int main(){ int x=08; }"), (2, 1, 19));
+}
+
+#[test]
+fn white_space_and_comments(rt: HostRuntime) -> Result<(), Fail> {
+    let none = [
+        b"".as_slice(),
+        b" \t\r\n",
+        b"//",
+        b"// $\xff",
+        b"/**/",
+        b"/* // */",
+        b"// /*\n",
+        b"/*/*/",
+        b"/*\n*\n/ **/",
+    ];
+    for source in none {
+        assert_eq!(rt; texts(rt.alloc(), source)?.len(), 0, "{source:?}");
+    }
+    assert_eq!(rt;
+        texts(rt.alloc(), b"a/*$*/b//c\nd")?.as_slice(),
+        b"a b d ".as_slice()
+    );
+    assert_eq!(rt;
+        texts(rt.alloc(), b"a/b/ /c*/d")?.as_slice(),
+        b"a / b / / c * / d ".as_slice()
+    );
+    assert_eq!(rt;
+        texts(rt.alloc(), b"/**/*/**/")?.as_slice(),
+        b"* ".as_slice()
+    );
+    for source in [b"/* x".as_slice(), b"/*", b"/*/", b"/* *", b"/* * /"] {
+        assert_eq!(rt; refusal(rt.alloc(), source), (3, 1, 1), "{source:?}");
+    }
+    assert_eq!(rt; refusal(rt.alloc(), b"a\n /*\n"), (3, 2, 2));
+    Ok(())
+}
+
+#[test]
+fn each_byte_alone(rt: HostRuntime) -> Result<(), Fail> {
+    for b in 0..=255u8 {
+        let source = [b].to_vec(rt.alloc())?;
+        let answer = refusal(rt.alloc(), source.as_slice());
+        let read = tokens(rt.alloc(), source.as_slice()).is_ok_and(|tokens| tokens.len() == 1);
+        match b {
+            b'\t' | b'\n' | b'\r' | b' ' => assert!(rt; answer == (0, 0, 0) && !read, "{b}"),
+            b'a'..=b'z' | b'A'..=b'Z' | b'_' | b'0'..=b'9' => assert!(rt; read, "{b}"),
+            _ if b"(){}[],;=+-*/%&|^~!<>".contains(&b) => assert!(rt; read, "{b}"),
+            _ => assert_eq!(rt; answer, (1, 1, 1), "{b}"),
+        }
+        let mut comment = b"/*".to_vec(rt.alloc())?;
+        comment.push(b)?;
+        comment.extend_from_slice(b"*/")?;
+        assert_eq!(rt; texts(rt.alloc(), comment.as_slice())?.len(), 0, "{b}");
+    }
+    Ok(())
+}
+
+#[test]
+fn the_leftmost_fault(rt: HostRuntime) {
+    assert_eq!(rt; refusal(rt.alloc(), b"int $x;"), (1, 1, 5));
+    assert_eq!(rt; refusal(rt.alloc(), b"08 $ /*"), (2, 1, 1));
+    assert_eq!(rt; refusal(rt.alloc(), b"\n\n  $ 08 /*"), (1, 3, 3));
+    assert_eq!(rt; refusal(rt.alloc(), b"x /* 08 $"), (3, 1, 3));
+    assert_eq!(rt; refusal(rt.alloc(), b"// $\n\t@"), (1, 2, 2));
+}
+
+#[test]
+fn places(rt: HostRuntime) -> Result<(), Fail> {
+    let source = b"int\r\n  x/*\n\n*/= --1;\n".as_slice();
+    let tokens = tokens(rt.alloc(), source)?;
+    let wanted = [
+        (Kind::Mark(Mark::Int), 0, 3, 1, 1),
+        (Kind::Name, 7, 8, 2, 3),
+        (Kind::Mark(Mark::Assign), 14, 15, 4, 3),
+        (Kind::Mark(Mark::Decrement), 16, 18, 4, 5),
+        (Kind::Number(1), 18, 19, 4, 7),
+        (Kind::Mark(Mark::Semicolon), 19, 20, 4, 8),
+    ];
+    assert_eq!(rt; tokens.len(), wanted.len());
+    for (token, (kind, start, end, line, col)) in tokens.iter().zip(wanted) {
+        assert_eq!(rt; token.kind, kind);
+        assert_eq!(rt; token.span, Span { start, end });
+        assert_eq!(rt; token.pos, Pos { line, col });
+    }
+    assert_eq!(rt;
+        texts(rt.alloc(), source)?.as_slice(),
+        b"int x = -- 1 ; ".as_slice()
+    );
+    Ok(())
+}
+
+#[test]
+fn the_length_of_a_source(rt: HostRuntime) -> Result<(), Fail> {
+    let mut source = vec![in rt.alloc(); b' '; 65536]?;
+    assert_eq!(rt; tokens(rt.alloc(), source.as_slice())?.len(), 0);
+    source.push(b' ')?;
+    assert_eq!(rt; refusal(rt.alloc(), source.as_slice()), (5, 0, 0));
+    let foreign = vec![in rt.alloc(); b'$'; 65537]?;
+    assert_eq!(rt; refusal(rt.alloc(), foreign.as_slice()), (5, 0, 0));
+    Ok(())
+}
