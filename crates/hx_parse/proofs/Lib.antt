@@ -1,0 +1,4 @@
+pub mod Marks
+pub mod Loops
+pub mod Steps
+pub mod Refused

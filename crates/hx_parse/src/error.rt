@@ -1,0 +1,64 @@
+// Why tokens are refused.
+
+ghost use Rattle.std.specs.Prelude.{◌≡◌};
+ghost use Rattle.hx_parse.specs.Answer.{number_of, pos_of};
+ghost use Rattle.hx_parse.specs.declared.error.ParseError.TheVariants.{Memory};
+
+use hx_tree::token::Pos;
+use std::alloc::{AllocError, AllocFailed};
+use thiserror::Error;
+
+/// Why tokens are refused. Each cause has a number.
+#[derive(Clone, Copy, Debug, PartialEq, Eq, Error)]
+pub enum ParseError {
+    /// 10: the tokens spell no program of any height. The place is that of the first token such that no program begins with
+    /// the tokens up to and with it, or just behind the last token.
+    #[error("no program goes on so at {line}:{col}", line = .0.line, col = .0.col)]
+    Syntax(Pos),
+    /// 11: the tokens spell no program of at most the height limit.
+    #[error("no program of at most 200 nodes on a path")]
+    TooDeep,
+    /// 12: there was no memory for the tree.
+    #[error("out of memory")]
+    Memory,
+}
+
+impl ParseError {
+    /// The number of the refusal: 10, 11 or 12.
+    pub fn number(self) -> u32
+        ensures { result ≡ number_of self }
+    {
+        match self {
+            ParseError::Syntax(_) => 10,
+            ParseError::TooDeep => 11,
+            ParseError::Memory => 12,
+        }
+    }
+
+    /// The place of the refusal; 10 alone has one.
+    pub fn pos(self) -> Option<Pos>
+        ensures { result ≡ pos_of self }
+    {
+        match self {
+            ParseError::Syntax(pos) => Some(pos),
+            ParseError::TooDeep => None,
+            ParseError::Memory => None,
+        }
+    }
+}
+
+impl From<AllocError> for ParseError {
+    ghost from_gives = { λ _ e. e ≡ Memory };
+
+    fn from(_e: AllocError) -> ParseError {
+        ParseError::Memory
+    }
+}
+
+impl<T: Drop> From<AllocFailed<T>> for ParseError {
+    ghost from_gives = { λ _ e. e ≡ Memory };
+
+    fn from(_e: AllocFailed<T>) -> ParseError {
+        ParseError::Memory
+    }
+}
