@@ -1,0 +1,157 @@
+// The numbers of an input text.
+
+ghost use Rattle.std.specs.Prelude.{◌≡◌, ◌≢◌, ◌↔◌, IsTrue, ℤ, List, IfSome, IfOk, IfErr, None};
+ghost use Rattle.std.specs.List.{prefix_len};
+ghost use Rattle.std.specs.Fmt.{signed_decimal};
+ghost use Rattle.hx_input.specs.InputText.{is_space, is_in_word, IsInputText, IsWordNumber, IsRefusedInput};
+
+use hx_tree::limits::INPUT_LIMIT;
+use itoa::Buffer;
+use std::alloc::{AllocError, AllocFailed, Global};
+use std::str;
+
+/// Why an input text gives no numbers.
+#[derive(Clone, Copy, Debug, PartialEq, Eq)]
+pub enum InputError {
+    /// 65: the text spells no list of numbers, or is longer than 1,048,576 bytes.
+    BadText,
+    /// 62: there was no memory for the numbers.
+    Memory,
+}
+
+impl<T: Drop> From<AllocFailed<T>> for InputError {
+    ghost use Rattle.std.specs.Prelude.{◌≡◌};
+    ghost use Rattle.hx_input.specs.declared.input.InputError.TheVariants.{Memory};
+
+    ghost from_gives = { λ _ e. e ≡ Memory };
+
+    fn from(_e: AllocFailed<T>) -> InputError {
+        InputError::Memory
+    }
+}
+
+fn is_space(b: u8) -> bool
+    ensures { result ≡ is_space b }
+{
+    b == 9 || b == 10 || b == 13 || b == 32
+}
+
+// How many bytes stand before the first white space.
+fn word_len(bytes: &[u8]) -> usize
+    ensures { result ≡ prefix_len is_in_word bytes.now }
+{
+    bytes.iter().take_while(|b| !is_space(**b)).count()
+}
+
+// Whether the word is how the number is printed, with no other zeros or signs.
+fn is_decimal_of(word: &[u8], value: i32) -> bool
+    ensures { IsTrue result ↔ (word.now ≡ signed_decimal value) }
+{
+    let mut buffer = Buffer::new();
+    buffer.format(value).as_bytes() == word
+}
+
+/// The number whose decimal the word is.
+fn number_of(word: &[u8]) -> Option<i32>
+    ensures some { IfSome result (λ z. (word.now ≡ signed_decimal z) × IsWordNumber z) }
+    ensures none { result ≡ None → (z : ℤ) → IsWordNumber z → word.now ≢ signed_decimal z }
+{
+    let Ok(text) = str::from_utf8(word) else {
+        return None;
+    };
+    let Ok(value) = text.parse::<i32>() else {
+        return None;
+    };
+    if is_decimal_of(word, value) {
+        Some(value)
+    } else {
+        None
+    }
+}
+
+/// The numbers that an input text spells, in their order.
+///
+/// Numbers stand in decimal with white space (the bytes 9, 10, 13 and 32) between them, before and behind them. A number is
+/// `0`, or digits of which the first isn't 0, or `-` and such digits, and lies from -2147483648 to 2147483647; so `-0`, `+1`
+/// and `07` are no numbers. The empty text spells the empty list. An `Ok` is the one list that the text spells. Refusals:
+///
+/// - 65, `BadText`: the text spells no list, or is longer than 1,048,576 bytes.
+/// - 62, `Memory`: there was no memory for the numbers; this says nothing of the text.
+pub fn parse_input(alloc: Global, text: &[u8]) -> Result<Vec<i32>, InputError>
+    ensures spelled { IfOk result (λ v. IsInputText text.now v.items) }
+    ensures only { IfOk result (λ v. (zs : List ℤ) → IsInputText text.now zs → zs ≡ v.items) }
+    ensures refused { IfErr result (IsRefusedInput text.now) }
+{
+    if text.len() > INPUT_LIMIT {
+        return Err(InputError::BadText);
+    }
+    let mut values = Vec::new(alloc);
+    let mut at = 0;
+    while at < text.len() {
+        let (_, rest) = text.split_at(at);
+        let len = word_len(rest);
+        if len > 0 {
+            match number_of(&rest[..len]) {
+                Some(value) => values.push(value)?,
+                None => return Err(InputError::BadText),
+            }
+        }
+        at += len + 1;
+    }
+    Ok(values)
+}
+
+#[cfg(test)]
+mod tests {
+    use super::*;
+    use std::process::Abort;
+    use std::test::Fail;
+
+    fn reads(rt: &impl Abort, alloc: Global, text: &[u8], numbers: &[i32]) {
+        match parse_input(alloc, text) {
+            Ok(found) => assert_eq!(rt; found.as_slice(), numbers),
+            Err(_) => assert!(rt; false),
+        }
+    }
+
+    #[test]
+    fn reads_numbers(rt: HostRuntime) {
+        let alloc = rt.alloc();
+        reads(&rt, alloc, b"", &[]);
+        reads(&rt, alloc, b" \t\r\n", &[]);
+        reads(&rt, alloc, b"5 -7", &[5, -7]);
+        reads(&rt, alloc, b"\n0\t12\r\n-3 ", &[0, 12, -3]);
+        reads(
+            &rt,
+            alloc,
+            b"2147483647 -2147483648",
+            &[2147483647, -2147483648],
+        );
+    }
+
+    #[test]
+    fn refuses_other_texts(rt: HostRuntime) -> Result<(), Fail> {
+        let texts = [
+            b"-0".as_slice(),
+            b"+1",
+            b"07",
+            b"-",
+            b"1a",
+            b"1,2",
+            b"--1",
+            b"2147483648",
+            b"-2147483649",
+            b"99999999999999999999",
+            b"1\x0c2",
+            b"\xff",
+        ];
+        for text in texts {
+            assert!(&rt; matches!(parse_input(rt.alloc(), text), Err(InputError::BadText)));
+        }
+        let mut long = vec![in rt.alloc(); b' '; INPUT_LIMIT]?;
+        assert!(&rt; parse_input(rt.alloc(), long.as_slice()).is_ok());
+        long.push(b' ')?;
+        assert!(&rt; parse_input(rt.alloc(), long.as_slice()).is_err());
+        Ok(())
+    }
+}
