@@ -36,7 +36,8 @@ const NODES_ABOVE: usize = 3;
 /// ISO/IEC 9899:2011, 6.5 to 6.9, as far as the language goes.
 #[tactic(auto, using(hx_grammar::proofs::Whole::found, hx_grammar::proofs::Whole::only_one, crate::proofs::Refused::refuses))]
 pub fn parse(alloc: Global, tokens: &[Token]) -> Result<Program, ParseError>
-    ensures spelled { IfOk result (λ p. IsProgram (program_of p) (tokens_of tokens.now) × (program_height (program_of p) ≤ HEIGHT_LIMIT)) }
+    ensures spelled { IfOk result (λ p. IsProgram (program_of p) (tokens_of tokens.now)) }
+    ensures low { IfOk result (λ p. program_height (program_of p) ≤ HEIGHT_LIMIT) }
     ensures only { IfOk result (λ p. NoOthers (tokens_of tokens.now) (program_of p)) }
     ensures refused { IfErr result (Refuses (tokens_of tokens.now)) }
 {
