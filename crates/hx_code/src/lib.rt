@@ -1,0 +1,7 @@
+//! The words of the machine, the tables of its code, when code is valid, and the executor of what
+//! asks nothing of a store: every reader of the machine, plain or speculative, stands on it.
+#![tactic(auto)]
+
+pub mod code;
+pub mod table;
+pub mod word;
