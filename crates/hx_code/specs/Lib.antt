@@ -1,5 +1,6 @@
 pub mod Code
 pub mod Call
+pub mod Step
 pub mod Valid
 pub mod Local
 pub mod Fits

@@ -2,6 +2,10 @@
 //! asks nothing of a store: every reader of the machine, plain or speculative, stands on it.
 #![tactic(auto)]
 
+pub mod call;
 pub mod code;
+pub mod number;
+pub mod operands;
+pub mod step;
 pub mod table;
 pub mod word;

@@ -90,6 +90,13 @@ pub enum Ask {
     Returns(i32),
 }
 
+/// Where a call goes on, and how many operands it has there, once it has what it asks.
+#[derive(Clone, Copy, PartialEq, Eq, Debug)]
+pub struct Next {
+    pub place: u32,
+    pub height: usize,
+}
+
 /// How a region ends: left, by a return from the function that opened it, or by a fault.
 #[derive(Clone, Copy, PartialEq, Eq, Debug)]
 pub enum Exit {
