@@ -1,0 +1,17 @@
+//! The words of the machine, the tables beside them, when both are valid code, and the executor of
+//! what asks nothing of a store: every reader of the machine, plain or speculative, stands on it.
+#![tactic(auto)]
+
+mod call;
+pub mod code;
+pub mod local;
+mod number;
+mod operands;
+mod step;
+pub mod table;
+#[cfg(test)]
+mod tests;
+pub mod validate;
+pub mod word;
+
+pub use call::Stretched;
