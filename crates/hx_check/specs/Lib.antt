@@ -1,0 +1,6 @@
+pub mod Resolved
+pub mod Views
+pub mod Carried
+pub mod Symbols
+pub mod Resolve
+pub mod Rows

@@ -1,0 +1,6 @@
+//! Whether a tree is accepted: names, kinds, counts and limits. An accepted tree is handed on with
+//! each name resolved to what it stands for.
+#![tactic(auto)]
+
+pub mod resolved;
+pub mod symbol;
