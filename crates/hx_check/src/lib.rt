@@ -2,5 +2,6 @@
 //! each name resolved to what it stands for.
 #![tactic(auto)]
 
+pub mod checked;
 pub mod resolved;
 pub mod symbol;
