@@ -1,5 +1,5 @@
 -- What global names and locals stand for. ISO/IEC 9899:2011, 6.2.1 (scopes).
-use Rattle.std.specs.Prelude.{ℕ, ◌+◌, List, [], ◌∷◌, ◌++◌, length, Option, Some, None}
+use Rattle.std.specs.Prelude.{ℕ, ◌+◌, Bool, false, List, [], ◌∷◌, ◌++◌, length, Option, Some, None, is_some}
 use Rattle.hx_tree.specs.Tree.{Name, LocalDecl, Init, NoInit, InitLocals, InitAssign, Shape, Scalar, Array, GlobalDecl, param_names, Item, Globals, Function, Program}
 use Rattle.hx_tree.specs.World.{Map, look_up, first_of}
 use Rattle.hx_tree.specs.Meaning.{item_functions}
@@ -36,6 +36,16 @@ symbols_of p = items_symbols p.items 0 0
 -- the private word of each local that is known, a map for each scope, the innermost first
 abbrev pub Scopes : Type 0
 Scopes = List (Map ℕ)
+
+-- the locals that are known at a place, and the next private word
+pub record Known : Type 0 where
+  pub scopes : Scopes
+  pub next : ℕ
+
+-- a name that the innermost scope has
+abbrev pub is_in_scope : List ℕ → Scopes → Bool
+is_in_scope x [] = false
+is_in_scope x (scope ∷ outer) = is_some (look_up scope x)
 
 abbrev pub private_word : Scopes → List ℕ → Option ℕ
 private_word [] x = None

@@ -3,5 +3,8 @@
 #![tactic(auto)]
 
 pub mod checked;
+pub mod error;
+mod here;
+mod names;
 pub mod resolved;
 pub mod symbol;
