@@ -1,6 +1,6 @@
 -- The checker as functions on trees: the resolved tree, or the first fault. The code does just this, and the theory says what
 -- its answers mean.
-use Rattle.std.specs.Prelude.{ℕ, ◌+◌, Bool, true, false, not, ◌&&◌, ◌||◌, if◌then◌else◌, nat_eq, nat_le, nat_lt, List, [], ◌∷◌, ◌++◌, length, drop, map, flat_map, codes, Option, Some, None, Result, Ok, Err}
+use Rattle.std.specs.Prelude.{◌≡◌, ℕ, ◌+◌, Bool, true, false, not, ◌&&◌, ◌||◌, if◌then◌else◌, nat_eq, nat_le, nat_lt, List, [], ◌∷◌, ◌++◌, length, drop, map, flat_map, codes, Option, Some, None, Result, Ok, Err}
 use Rattle.hx_tree.specs.declared.token.Pos.{Pos}
 use Rattle.hx_tree.specs.declared.limits.TheConstants.{CONSTANT_LIMIT, HEIGHT_LIMIT, FUNCTION_LIMIT, PARAMETER_LIMIT, PRIVATE_LIMIT, OPERAND_LIMIT, GLOBAL_LIMIT, ARRAY_LIMIT}
 use Rattle.hx_tree.specs.declared.tree.Constant.{Constant}
@@ -15,7 +15,7 @@ use Rattle.hx_tree.specs.Need.{function_need}
 use Rattle.hx_tree.specs.Height.{program_height}
 use Rattle.hx_tree.specs.Accepted.{is_among, count, private_words, shape_words}
 use Rattle.hx_check.specs.declared.error.CheckError.{CheckError}
-use Rattle.hx_check.specs.declared.error.CheckError.TheVariants.{UnknownName, DoubledName, WrongKind, WrongCount, OutsideLoop, NoMain, LimitPassed, TooLarge}
+use Rattle.hx_check.specs.declared.error.CheckError.TheVariants.{UnknownName, DoubledName, WrongKind, WrongCount, OutsideLoop, NoMain, LimitPassed, TooLarge, Memory}
 use Rattle.hx_check.specs.declared.here.Here.{Here}
 use Rattle.hx_check.specs.declared.names.Variable.{Variable}
 use Rattle.hx_check.specs.declared.names.Variable.TheVariants as variable
@@ -36,6 +36,24 @@ infixr 1 ◌>>=◌
 abbrev pub ◌>>=◌ : {A B : Type 0} → Checks A → (A → Checks B) → Checks B
 ◌>>=◌ (Ok a) f = f a
 ◌>>=◌ (Err e) f = Err e
+
+-- a result of the code, seen by view, is what a reading gives, unless memory ran out
+abbrev pub IsFault : {A : Type 0} → Checks A → CheckError → Type 0
+IsFault reading Memory = Unit {0}
+IsFault reading e = reading ≡ Err e
+
+abbrev pub IsReading : {A B : Type 0} → Checks A → (B → A) → Result B CheckError → Type 0
+IsReading reading view (Ok b) = reading ≡ Ok (view b)
+IsReading reading view (Err e) = IsFault reading e
+
+-- the same, beside what is known afterwards
+abbrev pub IsReadingNow : {A B : Type 0} → Checks (A × Known) → (B → A) → Known → Result B CheckError → Type 0
+IsReadingNow reading view after (Ok b) = reading ≡ Ok (view b, after)
+IsReadingNow reading view after (Err e) = IsFault reading e
+
+-- a number that is seen as it is
+abbrev pub same : ℕ → ℕ
+same n = n
 
 abbrev pub unless : Bool → CheckError → Checks (Unit {0})
 unless true e = Ok tt

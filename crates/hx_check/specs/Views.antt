@@ -1,6 +1,8 @@
 -- The resolved program that a value of the code is.
-use Rattle.std.specs.Prelude.{map, option_map}
+use Rattle.std.specs.Prelude.{ℕ, [], ◌∷◌, map, option_map}
+use Rattle.hx_tree.specs.World.{Map}
 use Rattle.hx_check.specs.Resolved as resolved
+use Rattle.hx_check.specs.Symbols.{Scopes, Known}
 use Rattle.hx_check.specs.declared.resolved.Expr.{Expr, Row_of-Expr, end_of-Expr, more_of-Expr}
 use Rattle.hx_check.specs.declared.resolved.Expr.TheVariants as expr
 use Rattle.hx_check.specs.declared.resolved.Place.{Place}
@@ -17,6 +19,11 @@ use Rattle.hx_check.specs.declared.resolved.Stmt.{Stmt, Row_of-Stmt, end_of-Stmt
 use Rattle.hx_check.specs.declared.resolved.Stmt.TheVariants as stmt
 use Rattle.hx_check.specs.declared.resolved.Function.{Function}
 use Rattle.hx_check.specs.declared.resolved.Program.{Program}
+use Rattle.hx_check.specs.declared.locals.Scope.{Scope}
+use Rattle.hx_check.specs.declared.locals.Scope.TheVariants as locals
+use Rattle.hx_check.specs.declared.locals.Scopes.{Scopes as CodeScopes}
+use Rattle.hx_check.specs.declared.locals.Scopes.TheVariants as scopes
+use Rattle.hx_check.specs.declared.locals.Locals.{Locals}
 
 abbrev mutual
   pub resolved_expr : Expr → resolved.Expr
@@ -81,3 +88,16 @@ resolved_function f =
 abbrev pub resolved_of : Program → resolved.Program
 resolved_of p =
     record { functions = map resolved_function p.functions.items; main = p.main; opening = p.opening.items; input = p.input; input_length = p.input_length }
+
+-- ---- what the checker knows
+
+abbrev pub scope_of : Scope → Map ℕ
+scope_of locals.Empty = []
+scope_of (locals.Local' text word p rest) = (text.items, word) ∷ scope_of rest
+
+abbrev pub scopes_of : CodeScopes → Scopes
+scopes_of scopes.Outside = []
+scopes_of (scopes.Inside' scope p outer) = scope_of scope ∷ scopes_of outer
+
+abbrev pub known_of : Locals → Known
+known_of l = record { scopes = scopes_of l.scopes; next = l.next }

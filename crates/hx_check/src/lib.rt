@@ -5,6 +5,7 @@
 pub mod checked;
 pub mod error;
 mod here;
+mod locals;
 mod names;
 pub mod resolved;
 pub mod symbol;
