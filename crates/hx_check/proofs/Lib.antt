@@ -3,3 +3,4 @@ mod WhatIsNamed
 mod Expressions
 mod Assignments
 mod Statements
+mod Tables

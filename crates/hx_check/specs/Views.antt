@@ -1,8 +1,11 @@
 -- The resolved program that a value of the code is.
-use Rattle.std.specs.Prelude.{ℕ, [], ◌∷◌, map, option_map}
+use Rattle.std.specs.Prelude.{ℕ, List, [], ◌∷◌, map, option_map}
+use Rattle.std.specs.declared.vec.Vec.{Vec}
 use Rattle.hx_tree.specs.World.{Map}
 use Rattle.hx_check.specs.Resolved as resolved
-use Rattle.hx_check.specs.Symbols.{Scopes, Known}
+use Rattle.hx_check.specs.Symbols.{Declared, Scopes, Known}
+use Rattle.hx_check.specs.declared.symbol.Symbol.{Symbol}
+use Rattle.hx_check.specs.declared.symbol.Symbols.{Symbols}
 use Rattle.hx_check.specs.declared.resolved.Expr.{Expr, Row_of-Expr, end_of-Expr, more_of-Expr}
 use Rattle.hx_check.specs.declared.resolved.Expr.TheVariants as expr
 use Rattle.hx_check.specs.declared.resolved.Place.{Place}
@@ -101,3 +104,12 @@ scopes_of (scopes.Inside' scope p outer) = scope_of scope ∷ scopes_of outer
 
 abbrev pub known_of : Locals → Known
 known_of l = record { scopes = scopes_of l.scopes; next = l.next }
+
+abbrev pub pair_of : {A : Type 0} → Vec ℕ A × Symbol → List ℕ × Symbol
+pair_of entry = (entry.0.items, entry.1)
+
+abbrev pub declared_of : Symbols → Declared
+declared_of s = record { symbols = map pair_of s.table.entries; words = s.words; functions = s.functions }
+
+abbrev pub symbols_in : Symbols → Map Symbol
+symbols_in s = map pair_of s.table.entries

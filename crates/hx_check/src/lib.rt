@@ -3,6 +3,7 @@
 #![tactic(auto)]
 
 pub mod checked;
+mod declare;
 pub mod error;
 mod here;
 mod locals;
