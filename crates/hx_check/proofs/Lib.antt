@@ -4,3 +4,5 @@ mod Expressions
 mod Assignments
 mod Statements
 mod Tables
+mod Nodes
+mod Calls

@@ -1,6 +1,7 @@
 -- The resolved program that a value of the code is.
-use Rattle.std.specs.Prelude.{ℕ, List, [], ◌∷◌, map, option_map}
+use Rattle.std.specs.Prelude.{ℕ, List, [], ◌∷◌, map, Option, option_map}
 use Rattle.std.specs.declared.vec.Vec.{Vec}
+use Rattle.std.specs.declared.alloc.Global.{Global}
 use Rattle.hx_tree.specs.World.{Map}
 use Rattle.hx_check.specs.Resolved as resolved
 use Rattle.hx_check.specs.Symbols.{Declared, Scopes, Known}
@@ -113,3 +114,20 @@ declared_of s = record { symbols = map pair_of s.table.entries; words = s.words;
 
 abbrev pub symbols_in : Symbols → Map Symbol
 symbols_in s = map pair_of s.table.entries
+
+-- ---- lists of nodes
+
+abbrev pub resolved_exprs_in : Vec Expr Global → List resolved.Expr
+resolved_exprs_in es = map resolved_expr es.items
+
+abbrev pub resolved_option : Option Expr → Option resolved.Expr
+resolved_option e = option_map resolved_expr e
+
+abbrev pub resolved_step : Option Assignment → Option resolved.Assignment
+resolved_step a = option_map resolved_assignment a
+
+abbrev pub resolved_simples_in : Vec Simple Global → List resolved.Simple
+resolved_simples_in ss = map resolved_simple ss.items
+
+abbrev pub resolved_stmts_in : Vec Stmt Global → List resolved.Stmt
+resolved_stmts_in ss = map resolved_stmt ss.items

@@ -2,11 +2,14 @@
 //! each name resolved to what it stands for.
 #![tactic(auto)]
 
+mod carried;
 pub mod checked;
 mod declare;
 pub mod error;
+mod expression;
 mod here;
 mod locals;
+mod make;
 mod names;
 pub mod resolved;
 pub mod symbol;
