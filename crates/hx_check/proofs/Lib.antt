@@ -6,3 +6,4 @@ mod Statements
 mod Tables
 mod Nodes
 mod Calls
+mod Filters

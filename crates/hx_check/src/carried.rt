@@ -1,6 +1,7 @@
 // Which private words a region takes along.
 
 ghost use Rattle.std.specs.Prelude.{◌≡◌, IfOk, map};
+ghost use Rattle.std.specs.List.{filter, range_with_len};
 ghost use Rattle.hx_check.specs.Resolved.{exprs, stmts};
 ghost use Rattle.hx_check.specs.Views.{resolved_expr, resolved_place, resolved_assignment, resolved_simple, resolved_clauses, resolved_stmt, resolved_region, resolved_option, resolved_step};
 ghost use Rattle.hx_check.specs.Carried as carried;
@@ -289,6 +290,40 @@ fn is_copied(c: &Clauses, body: &Stmt, k: u32) -> bool
     !stmt_declares(body, k) && turns_read(c, body, k) && !turns_assign(c, body, k)
 }
 
+fn carried_words(
+    alloc: Global,
+    privates: u32,
+    c: &Clauses,
+    body: &Stmt,
+) -> Result<Vec<u32>, AllocError>
+    ensures { IfOk result (λ v. v.items ≡ filter (carried.is_carried (resolved_clauses c.now) (resolved_stmt body.now)) (range_with_len 0 privates)) }
+{
+    let mut words = Vec::new(alloc);
+    for k in 0..privates {
+        if is_carried(c, body, k) {
+            words.push(k)?;
+        }
+    }
+    Ok(words)
+}
+
+fn copied_words(
+    alloc: Global,
+    privates: u32,
+    c: &Clauses,
+    body: &Stmt,
+) -> Result<Vec<u32>, AllocError>
+    ensures { IfOk result (λ v. v.items ≡ filter (carried.is_copied (resolved_clauses c.now) (resolved_stmt body.now)) (range_with_len 0 privates)) }
+{
+    let mut words = Vec::new(alloc);
+    for k in 0..privates {
+        if is_copied(c, body, k) {
+            words.push(k)?;
+        }
+    }
+    Ok(words)
+}
+
 /// The region of a marked loop, in a function with so many private words.
 pub fn region_of(
     alloc: Global,
@@ -298,11 +333,7 @@ pub fn region_of(
 ) -> Result<Region, AllocError>
     ensures { IfOk result (λ r. resolved_region r ≡ carried.region_of privates (resolved_clauses c.now) (resolved_stmt body.now)) }
 {
-    let carried = (0..privates)
-        .filter(|k| is_carried(c, body, *k))
-        .collect(alloc)?;
-    let copied = (0..privates)
-        .filter(|k| is_copied(c, body, *k))
-        .collect(alloc)?;
+    let carried = carried_words(alloc, privates, c, body)?;
+    let copied = copied_words(alloc, privates, c, body)?;
     Ok(Region { carried, copied })
 }
