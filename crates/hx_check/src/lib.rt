@@ -12,4 +12,5 @@ mod locals;
 mod make;
 mod names;
 pub mod resolved;
+mod statement;
 pub mod symbol;
