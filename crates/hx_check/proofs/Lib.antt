@@ -6,4 +6,5 @@ mod Statements
 mod Tables
 mod Nodes
 mod Calls
+mod Needs
 mod Filters
