@@ -5,6 +5,8 @@ mod Assignments
 mod Statements
 mod Tables
 mod Nodes
+mod Distinct
+mod Functions
 mod Calls
 mod Needs
 mod Filters

@@ -131,3 +131,6 @@ resolved_simples_in ss = map resolved_simple ss.items
 
 abbrev pub resolved_stmts_in : Vec Stmt Global → List resolved.Stmt
 resolved_stmts_in ss = map resolved_stmt ss.items
+
+abbrev pub resolved_functions_in : Vec Function Global → List resolved.Function
+resolved_functions_in fs = map resolved_function fs.items

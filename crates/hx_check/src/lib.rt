@@ -7,6 +7,7 @@ pub mod checked;
 mod declare;
 pub mod error;
 mod expression;
+mod function;
 mod height;
 mod here;
 mod locals;
