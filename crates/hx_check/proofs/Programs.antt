@@ -11,13 +11,21 @@ use Rattle.hx_tree.specs.World.{Map, look_up}
 use Rattle.hx_tree.specs.Meaning.{item_functions, functions_of}
 use Rattle.hx_tree.specs.Height.{program_height}
 use Rattle.hx_tree.specs.Accepted.{Kind, IntKind, ArrayKind, FunctionKind, IsAccepted, AcceptsItem, AcceptsShape, AcceptsFunction, IsDistinct, kinds_of, item_words}
+use Rattle.hx_tree.specs.declared.tree.GlobalDecl.{GlobalDecl}
+use Rattle.hx_tree.specs.declared.tree.Item.{Item}
+use Rattle.hx_tree.specs.declared.tree.Item.TheVariants as item
+use Rattle.hx_tree.specs.View.{global_of, shape_of, item_of}
+use Rattle.hx_check.specs.declared.error.CheckError.{CheckError}
+use Rattle.hx_check.specs.declared.error.CheckError.TheVariants as error
 use Rattle.hx_check.specs.declared.error.CheckError.TheVariants.{NoMain, TooLarge}
+use Rattle.hx_check.specs.Opening.{GlobalsFit}
+use Rattle.hx_check.specs.Refusals.{Refuses}
 use Rattle.hx_check.specs.declared.symbol.Symbol.{Symbol}
 use Rattle.hx_check.specs.declared.symbol.Symbol.TheVariants as symbol
 use Rattle.hx_check.specs.Resolved.{Function, Program}
 use Rattle.hx_check.specs.Symbols.{Declared, items_symbols, symbols_of}
 use Rattle.hx_check.specs.Resolve.{or_else, function_number, resolve, resolve_function}
-use Rattle.hx_check.specs.Reading.{Checks, ◌>>=◌, unless, declare_items, nothing_declared, main_of, check_main, check_functions, check_function, check_program}
+use Rattle.hx_check.specs.Reading.{Checks, ◌>>=◌, IsFault, unless, declare_items, nothing_declared, main_of, check_main, check_functions, check_function, check_program}
 use Rattle.hx_check.proofs.Steps.{bind_ok, bind_at, if_ok, if_at, same_ok}
 use Rattle.hx_check.proofs.WhatIsNamed.{kind_of_symbol, kinds, look_up_kinds}
 use Rattle.hx_check.proofs.Assignments.{unless_at, unless_ok}
@@ -127,3 +135,32 @@ sound_program p r h =
 -- a program with another answer isn't accepted
 pub refused_program : (p : tree.Program) (e : _) → check_program p ≡ Err e → IsAccepted p → ⊥
 refused_program p e h accepted = let ok = complete_program p accepted in cc
+
+pub refuses_program : (p : tree.Program) (e : CheckError) → IsFault (check_program p) e → Refuses e (IsAccepted p)
+refuses_program p (error.UnknownName pos) h = refused_program p (error.UnknownName pos) h
+refuses_program p (error.DoubledName pos) h = refused_program p (error.DoubledName pos) h
+refuses_program p (error.WrongKind pos) h = refused_program p (error.WrongKind pos) h
+refuses_program p (error.WrongCount pos) h = refused_program p (error.WrongCount pos) h
+refuses_program p (error.OutsideLoop pos) h = refused_program p (error.OutsideLoop pos) h
+refuses_program p error.NoMain h = refused_program p error.NoMain h
+refuses_program p (error.LimitPassed pos) h = refused_program p (error.LimitPassed pos) h
+refuses_program p error.TooLarge h = refused_program p error.TooLarge h
+refuses_program p error.Memory h = tt
+
+-- ---- the globals of a program whose items are declared
+
+shapes_in : (gs : List GlobalDecl) → AllByRecursion (λ (g : tree.GlobalDecl). AcceptsShape g.shape) (map global_of gs) → AllByRecursion (λ (g : GlobalDecl). AcceptsShape (shape_of g.shape)) gs
+shapes_in [] h = tt
+shapes_in (g ∷ gs) h = (h.0, shapes_in gs h.1)
+
+globals_in : (i : Item) → ItemFits (item_of i) → GlobalsFit i
+globals_in (item.Globals gs) h = All-from_recursion (λ (g : GlobalDecl). AcceptsShape (shape_of g.shape)) gs.items (shapes_in gs.items h)
+globals_in (item.Function f) h = tt
+
+items_in : (is : List Item) → AllByRecursion ItemFits (map item_of is) → AllByRecursion GlobalsFit is
+items_in [] h = tt
+items_in (i ∷ is) h = (globals_in i h.0, items_in is h.1)
+
+pub globals_fit : (is : List Item) (d : Declared) → declare_items (map item_of is) nothing_declared ≡ Ok d → All GlobalsFit is
+globals_fit is d h =
+    All-from_recursion GlobalsFit is (items_in is (sound_items (map item_of is) nothing_declared d (omega arith) (omega arith) h).fits)
