@@ -62,8 +62,8 @@ complete_functions [] symbols done h = ap (λ l. Ok l) (sym (append-nil done))
 complete_functions (tree.Globals gs ∷ is) symbols done h = complete_functions is symbols done h.1
 complete_functions (tree.Function f ∷ is) symbols done h =
     bind_at _ _ _ _ (complete_function f symbols h.0)
-        (complete_functions is symbols (done ++ resolve_function symbols f ∷ []) h.1
-        ∙ ap (λ l. Ok l) (append_assoc done (resolve_function symbols f ∷ []) (map (resolve_function symbols) (flat_map item_functions is))))
+    (complete_functions is symbols (done ++ resolve_function symbols f ∷ []) h.1
+    ∙ ap (λ l. Ok l) (append_assoc done (resolve_function symbols f ∷ []) (map (resolve_function symbols) (flat_map item_functions is))))
 
 sound_functions : (is : List tree.Item) (symbols : Map Symbol) (done r : List Function) → AllByRecursion ItemFits is → check_functions is symbols done ≡ Ok r → AllByRecursion (Accepts symbols) is
 sound_functions [] symbols done r fits h = tt
@@ -100,11 +100,11 @@ complete_program p h =
     let low : program_height p ≤ HEIGHT_LIMIT = h.is_low in
     let main = sym (look_up_kinds symbols (codes "main")) ∙ ap (λ (k : Map Kind). look_up k (codes "main")) (kinds_same p) ∙ h.has_main in
     let all : AllByRecursion (Accepts symbols) p.items =
-        subst (λ (k : Map Kind). AllByRecursion (AcceptsItem k) p.items) (sym (kinds_same p)) (recursion_from_All (AcceptsItem (kinds_of p)) p.items h.items) in
+    subst (λ (k : Map Kind). AllByRecursion (AcceptsItem k) p.items) (sym (kinds_same p)) (recursion_from_All (AcceptsItem (kinds_of p)) p.items h.items) in
     bind_at _ _ _ _ (unless_at (nat_le (program_height p) HEIGHT_LIMIT) TooLarge (le-leb (program_height p) HEIGHT_LIMIT low))
-        (bind_at _ _ _ _ (complete_items p.items nothing_declared (fit_of p h))
-            (bind_at _ _ _ _ (main_at (look_up symbols (codes "main")) main)
-                (bind_at _ _ _ _ (complete_functions p.items symbols [] all) refl)))
+    (bind_at _ _ _ _ (complete_items p.items nothing_declared (fit_of p h))
+    (bind_at _ _ _ _ (main_at (look_up symbols (codes "main")) main)
+    (bind_at _ _ _ _ (complete_functions p.items symbols [] all) refl)))
 
 pub sound_program : (p : tree.Program) (r : Program) → check_program p ≡ Ok r → IsAccepted p
 sound_program p r h =
@@ -124,9 +124,9 @@ sound_program p r h =
       is_low = leb-true (program_height p) HEIGHT_LIMIT (unless_ok (nat_le (program_height p) HEIGHT_LIMIT) TooLarge a.0 a.1);
       distinct = subst (λ (l : List (List ℕ)). IsDistinct l) (sym (names_are p.items)) (distinct_of (names_of p.items) fit.fresh);
       has_main =
-        ap (λ (k : Map Kind). look_up k (codes "main")) (sym (kinds_same p))
-        ∙ look_up_kinds symbols (codes "main")
-        ∙ main_known (look_up symbols (codes "main")) c.0 main;
+          ap (λ (k : Map Kind). look_up k (codes "main")) (sym (kinds_same p))
+          ∙ look_up_kinds symbols (codes "main")
+          ∙ main_known (look_up symbols (codes "main")) c.0 main;
       items = All-from_recursion (AcceptsItem (kinds_of p)) p.items (subst (λ (k : Map Kind). AllByRecursion (AcceptsItem k) p.items) (kinds_same p) all);
       few_words = omega arith;
       few_functions = omega arith;

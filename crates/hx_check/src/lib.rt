@@ -20,3 +20,5 @@ mod privates;
 pub mod resolved;
 mod statement;
 pub mod symbol;
+#[cfg(test)]
+mod tests;
