@@ -20,5 +20,6 @@ mod privates;
 pub mod resolved;
 mod statement;
 pub mod symbol;
+mod table;
 #[cfg(test)]
 mod tests;
