@@ -1,7 +1,7 @@
 -- The checks of assignments and declarations are right exactly where they are accepted, and give them resolved.
-use Rattle.std.proofs.Common.{◌≡◌, ℕ, suc, ◌+◌, ◌<◌, ◌≤◌, Bool, true, false, List, [], ◌∷◌, ◌++◌, length, drop, refl, ap, sym, ◌∙◌, subst, append_assoc, append-nil, add-zero, arith}
-use Rattle.std.specs.Prelude.{Option, Some, None, Ok, Err, nat_lt, IsFalse, option_map}
-use Rattle.std.proofs.lemmas.Bool.{ltb-true, lt-ltb}
+use Rattle.std.proofs.Common.{◌≡◌, ℕ, ◌+◌, ◌<◌, ◌≤◌, Bool, true, false, List, [], ◌∷◌, ◌++◌, length, refl, ap, sym, ◌∙◌, subst, append_assoc, append-nil, add-zero, arith}
+use Rattle.std.specs.Prelude.{Option, Some, None, Ok, nat_lt, option_map}
+use Rattle.std.proofs.lemmas.Bool.{lt-ltb}
 use Rattle.hx_tree.specs.declared.limits.TheConstants.{PRIVATE_LIMIT}
 use Rattle.hx_tree.specs.declared.token.Pos.{Pos}
 use Rattle.hx_tree.specs.declared.tree.Returns.{Returns}
@@ -12,12 +12,12 @@ use Rattle.hx_tree.specs.Accepted.{Surroundings, AcceptsExpr, AcceptsPlace, Acce
 use Rattle.hx_check.specs.declared.error.CheckError.{CheckError}
 use Rattle.hx_check.specs.declared.here.Here.{Here}
 use Rattle.hx_check.specs.declared.symbol.Symbol.{Symbol}
-use Rattle.hx_check.specs.Resolved.{Expr, Number, Place, ToElement, Assignment, Set, Update, Simple, Declare, Assign}
+use Rattle.hx_check.specs.Resolved.{Expr, Place, Assignment, Simple, Declare, Assign}
 use Rattle.hx_check.specs.Symbols.{Known, Scopes, private_word, with_word, with_words, words_after_init, is_in_scope}
-use Rattle.hx_check.specs.Resolve.{resolve_expr, resolve_place, resolve_assignment, resolve_locals, resolve_init, words_named, expr_or_zero}
-use Rattle.hx_check.specs.Reading.{Checks, ◌>>=◌, unless, check_expr, check_place, check_assignment, check_or_zero, check_test, check_step, check_variable, check_array, check_new, declare, check_locals, check_init, check_return, write}
-use Rattle.hx_check.proofs.Steps.{bind_ok, bind_at, if_ok, if_at, else_ok, else_at, same_ok}
-use Rattle.hx_check.proofs.WhatIsNamed.{surroundings, kinds, texts, texts_in, is_among_is, kind_is, kind_at, int_written, int_known, array_at, array_known}
+use Rattle.hx_check.specs.Resolve.{resolve_expr, resolve_place, resolve_assignment, resolve_locals, resolve_init, expr_or_zero}
+use Rattle.hx_check.specs.Reading.{unless, check_expr, check_place, check_assignment, check_or_zero, check_test, check_step, check_array, check_new, declare, check_locals, check_init, check_return}
+use Rattle.hx_check.proofs.Steps.{bind_ok, bind_at, if_at, else_ok, else_at, same_ok}
+use Rattle.hx_check.proofs.WhatIsNamed.{surroundings, kinds, texts, is_among_is, kind_is, int_written, int_known, array_at, array_known}
 use Rattle.hx_check.proofs.Expressions.{complete, sound}
 
 -- ---- places and assignments

@@ -1,5 +1,5 @@
 -- Nodes of the tree that hold a list of nodes, as the reading sees them.
-use Rattle.std.proofs.Common.{Global, ◌≡◌, ℕ, suc, ◌+◌, true, false, List, [], ◌∷◌, map, length, refl, ap, sym, ◌∙◌, arith}
+use Rattle.std.proofs.Common.{Global, ◌≡◌, true, false, List, [], ◌∷◌, map, length, refl, ap, ◌∙◌, arith}
 use Rattle.std.specs.Prelude.{Vec, Ok}
 use Rattle.std.proofs.lemmas.List.{length-map}
 use Rattle.hx_tree.specs.declared.tree.Name.{Name}
@@ -16,7 +16,7 @@ use Rattle.hx_tree.proofs.View.{call_is, block_is}
 use Rattle.hx_check.specs.declared.symbol.Symbol.{Symbol}
 use Rattle.hx_check.specs.Resolved.{Call, exprs, Block, stmts, CallStatement}
 use Rattle.hx_check.specs.Symbols.{Known, Scopes}
-use Rattle.hx_check.specs.Reading.{Checks, ◌>>=◌, check_expr, check_exprs, check_callee, check_stmt, check_parts, in_scope, out_of_scope}
+use Rattle.hx_check.specs.Reading.{◌>>=◌, check_expr, check_exprs, check_callee, check_stmt, check_parts, in_scope, out_of_scope}
 use Rattle.hx_check.specs.declared.here.Here.{Here}
 
 count_exprs : (es : List tree.Expr) → count (tree.exprs es) ≡ length es

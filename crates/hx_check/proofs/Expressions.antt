@@ -1,20 +1,19 @@
 -- The checks of expressions are right exactly where they are accepted, and give the resolved expression.
-use Rattle.std.proofs.Common.{◌≡◌, ℕ, ◌+◌, ◌≤◌, true, List, [], ◌∷◌, ◌++◌, refl, ap, sym, ◌∙◌, append_assoc, append-nil}
-use Rattle.std.specs.Prelude.{Option, Some, None, Ok, Err, nat_le}
+use Rattle.std.proofs.Common.{◌≡◌, true, List, [], ◌∷◌, ◌++◌, refl, ap, sym, ◌∙◌, append_assoc, append-nil}
+use Rattle.std.specs.Prelude.{Ok, nat_le}
 use Rattle.std.proofs.lemmas.Bool.{leb-true, le-leb}
 use Rattle.hx_tree.specs.declared.limits.TheConstants.{CONSTANT_LIMIT}
-use Rattle.hx_tree.specs.declared.tree.Returns.TheVariants as returns
 use Rattle.hx_tree.specs.Tree as tree
 use Rattle.hx_tree.specs.World.{Map, look_up}
-use Rattle.hx_tree.specs.Accepted.{AcceptsExpr, AcceptsExprs, AcceptsPlace, AcceptsAssignment, IfThere, count, IsInt, IsArray, IntKind, ArrayKind, FunctionKind}
+use Rattle.hx_tree.specs.Accepted.{AcceptsExpr, AcceptsExprs, count}
 use Rattle.hx_check.specs.declared.here.Here.{Here}
 use Rattle.hx_check.specs.declared.symbol.Symbol.{Symbol}
-use Rattle.hx_check.specs.Resolved.{Expr, Number, Element, Call, Unary, Binary, Exprs, no_exprs, expr_and, exprs, Place, ToElement, Assignment, Set, Update}
+use Rattle.hx_check.specs.Resolved.{Expr, Call, Exprs, no_exprs, expr_and, exprs}
 use Rattle.hx_check.specs.Symbols.{Scopes, private_word}
-use Rattle.hx_check.specs.Resolve.{resolve_expr, resolve_exprs, resolve_place, resolve_assignment, words_named, function_at, expr_or_zero}
-use Rattle.hx_check.specs.Reading.{Checks, ◌>>=◌, check_expr, check_exprs, check_place, check_assignment, check_or_zero, check_test, check_step, check_variable, check_array, check_callee, read, write}
-use Rattle.hx_check.proofs.Steps.{bind_ok, bind_at, if_ok, if_at, same_ok}
-use Rattle.hx_check.proofs.WhatIsNamed.{surroundings, kind_is, kind_at, int_read, int_written, int_known, array_at, array_known, value_at, value_known}
+use Rattle.hx_check.specs.Resolve.{resolve_expr, resolve_exprs, function_at}
+use Rattle.hx_check.specs.Reading.{check_expr, check_exprs, check_array, check_callee}
+use Rattle.hx_check.proofs.Steps.{bind_ok, bind_at, if_ok, if_at}
+use Rattle.hx_check.proofs.WhatIsNamed.{surroundings, kind_is, int_read, int_known, array_at, array_known, value_at, value_known}
 
 -- the resolved expressions as a list
 abbrev pub list_of : Exprs → List Expr

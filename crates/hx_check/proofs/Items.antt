@@ -1,6 +1,6 @@
 -- The items of a program are declared exactly where they are accepted, and the global names are then those of the program.
-use Rattle.std.proofs.Common.{◌≡◌, ℕ, ◌+◌, ◌<◌, ◌≤◌, Bool, true, false, List, [], ◌∷◌, ◌++◌, length, map, refl, ap, sym, ◌∙◌, subst, append_assoc, append-nil, add-zero, add_assoc, length-append, arith, if◌then◌else◌}
-use Rattle.std.specs.Prelude.{Option, Some, None, Ok, Err, is_some, nat_le, nat_lt, bytes_eq, flat_map, sum_by, All}
+use Rattle.std.proofs.Common.{◌≡◌, ℕ, ◌+◌, ◌≤◌, Bool, true, false, List, [], ◌∷◌, ◌++◌, length, map, refl, ap, sym, ◌∙◌, subst, append_assoc, append-nil, add-zero, add_assoc, length-append, arith, if◌then◌else◌}
+use Rattle.std.specs.Prelude.{Option, Some, None, Ok, is_some, nat_le, nat_lt, bytes_eq, flat_map, sum_by}
 use Rattle.std.specs.List.{AllByRecursion}
 use Rattle.std.proofs.lemmas.Bool.{leb-true, le-leb, ltb-true, lt-ltb}
 use Rattle.std.proofs.lemmas.List.{map-append}
@@ -12,12 +12,12 @@ use Rattle.hx_tree.specs.Tree as tree
 use Rattle.hx_tree.specs.World.{Map, look_up}
 use Rattle.hx_tree.specs.Meaning.{item_functions}
 use Rattle.hx_tree.specs.Accepted.{Kind, kind_of_shape, item_kinds, is_among, shape_words, item_words, AcceptsConstant, AcceptsShape}
-use Rattle.hx_check.specs.declared.error.CheckError.TheVariants.{DoubledName, LimitPassed}
+use Rattle.hx_check.specs.declared.error.CheckError.TheVariants.{LimitPassed}
 use Rattle.hx_check.specs.declared.symbol.Symbol.{Symbol}
 use Rattle.hx_check.specs.declared.symbol.Symbol.TheVariants as symbol
 use Rattle.hx_check.specs.Symbols.{Declared, symbol_at, global_symbols, item_symbols, items_symbols}
-use Rattle.hx_check.specs.Reading.{Checks, ◌>>=◌, unless, check_free, constants_fit, shape_fits, declare_global, declare_function, declare_globals, declare_item, declare_items}
-use Rattle.hx_check.proofs.Steps.{bind_ok, bind_at, if_ok, if_at, else_ok, else_at, same_ok}
+use Rattle.hx_check.specs.Reading.{unless, check_free, constants_fit, shape_fits, declare_global, declare_globals, declare_item, declare_items}
+use Rattle.hx_check.proofs.Steps.{bind_ok, bind_at, else_ok, else_at, same_ok}
 use Rattle.hx_check.proofs.WhatIsNamed.{kind_of_symbol, kinds}
 use Rattle.hx_check.proofs.Assignments.{unless_at, unless_ok}
 use Rattle.hx_check.proofs.Distinct.{Fresh, fresh_append, fresh_first, fresh_second}

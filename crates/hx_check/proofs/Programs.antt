@@ -1,5 +1,5 @@
 -- The checker's reading is right exactly on the accepted programs, and then gives the resolved program.
-use Rattle.std.proofs.Common.{◌≡◌, ℕ, ◌+◌, ◌≤◌, Bool, true, false, List, [], ◌∷◌, ◌++◌, length, map, refl, ap, sym, ◌∙◌, subst, append_assoc, append-nil, eqb, arith}
+use Rattle.std.proofs.Common.{◌≡◌, ℕ, ◌+◌, ◌≤◌, List, [], ◌∷◌, ◌++◌, length, map, refl, ap, sym, ◌∙◌, subst, append_assoc, append-nil, arith}
 use Rattle.std.specs.Prelude.{Option, Some, None, Ok, Err, nat_le, nat_eq, flat_map, sum_by, codes, option_map, All}
 use Rattle.std.specs.List.{AllByRecursion}
 use Rattle.std.proofs.lemmas.Bool.{leb-true, le-leb, eqb-true, eq-eqb}
@@ -10,7 +10,7 @@ use Rattle.hx_tree.specs.Tree as tree
 use Rattle.hx_tree.specs.World.{Map, look_up}
 use Rattle.hx_tree.specs.Meaning.{item_functions, functions_of}
 use Rattle.hx_tree.specs.Height.{program_height}
-use Rattle.hx_tree.specs.Accepted.{Kind, IntKind, ArrayKind, FunctionKind, IsAccepted, AcceptsItem, AcceptsShape, AcceptsFunction, IsDistinct, kinds_of, item_words}
+use Rattle.hx_tree.specs.Accepted.{Kind, FunctionKind, IsAccepted, AcceptsItem, AcceptsShape, IsDistinct, kinds_of, item_words}
 use Rattle.hx_tree.specs.declared.tree.GlobalDecl.{GlobalDecl}
 use Rattle.hx_tree.specs.declared.tree.Item.{Item}
 use Rattle.hx_tree.specs.declared.tree.Item.TheVariants as item
@@ -23,13 +23,13 @@ use Rattle.hx_check.specs.Refusals.{Refuses}
 use Rattle.hx_check.specs.declared.symbol.Symbol.{Symbol}
 use Rattle.hx_check.specs.declared.symbol.Symbol.TheVariants as symbol
 use Rattle.hx_check.specs.Resolved.{Function, Program}
-use Rattle.hx_check.specs.Symbols.{Declared, items_symbols, symbols_of}
+use Rattle.hx_check.specs.Symbols.{Declared, symbols_of}
 use Rattle.hx_check.specs.Resolve.{or_else, function_number, resolve, resolve_function}
-use Rattle.hx_check.specs.Reading.{Checks, ◌>>=◌, IsFault, unless, declare_items, nothing_declared, main_of, check_main, check_functions, check_function, check_program}
+use Rattle.hx_check.specs.Reading.{IsFault, unless, declare_items, nothing_declared, main_of, check_main, check_functions, check_function, check_program}
 use Rattle.hx_check.proofs.Steps.{bind_ok, bind_at, if_ok, if_at, same_ok}
 use Rattle.hx_check.proofs.WhatIsNamed.{kind_of_symbol, kinds, look_up_kinds}
 use Rattle.hx_check.proofs.Assignments.{unless_at, unless_ok}
-use Rattle.hx_check.proofs.Distinct.{Fresh, distinct_of, fresh_of}
+use Rattle.hx_check.proofs.Distinct.{distinct_of, fresh_of}
 use Rattle.hx_check.proofs.Functions.{complete_function, sound_function}
 use Rattle.hx_check.proofs.Items.{ItemFits, Fit, names_of, functions_in, after_items, complete_items, sound_items, kinds_are, names_are}
 

@@ -1,22 +1,21 @@
 -- The checks of statements are right exactly where they are accepted, give them resolved, and leave the scopes as they were.
-use Rattle.std.proofs.Common.{◌≡◌, ℕ, ◌+◌, ◌≤◌, Bool, true, false, List, [], ◌∷◌, ◌++◌, length, drop, map, refl, ap, sym, ◌∙◌, subst, append_assoc, append-nil, add-zero, add_assoc, arith}
-use Rattle.std.specs.Prelude.{Option, Some, None, Ok, Err, option_map}
+use Rattle.std.proofs.Common.{◌≡◌, ℕ, ◌+◌, ◌≤◌, false, List, [], ◌∷◌, ◌++◌, drop, map, refl, ap, sym, ◌∙◌, subst, append_assoc, append-nil, add-zero, add_assoc, arith}
+use Rattle.std.specs.Prelude.{Ok}
 use Rattle.hx_tree.specs.declared.limits.TheConstants.{PRIVATE_LIMIT}
-use Rattle.hx_tree.specs.declared.tree.Returns.{Returns}
 use Rattle.hx_tree.specs.Tree as tree
 use Rattle.hx_tree.specs.World.{Map, look_up}
-use Rattle.hx_tree.specs.Accepted.{Surroundings, AcceptsExpr, AcceptsExprs, AcceptsAssignment, AcceptsStmt, AcceptsPart, AcceptsParts, IfThere, count, after_init, after_part, inside_loop, init_locals, stmt_locals, part_locals, parts_locals}
+use Rattle.hx_tree.specs.Accepted.{Surroundings, AcceptsExpr, AcceptsAssignment, AcceptsStmt, AcceptsPart, AcceptsParts, IfThere, count, after_init, after_part, inside_loop, init_locals, stmt_locals, part_locals, parts_locals}
 use Rattle.hx_check.specs.declared.here.Here.{Here}
 use Rattle.hx_check.specs.declared.symbol.Symbol.{Symbol}
-use Rattle.hx_check.specs.Resolved.{Expr, Number, exprs, Assignment, Simple, Assign, Clauses, Stmt, Block, Do, CallStatement, Print, Emit, If, IfElse, Loop, Break, Continue, Return, Stmts, no_stmts, stmt_and, stmts}
+use Rattle.hx_check.specs.Resolved.{Simple, Assign, Stmt, Block, Do, CallStatement, Print, Emit, IfElse, Break, Continue, Return, Stmts, no_stmts, stmt_and, stmts}
 use Rattle.hx_check.specs.Symbols.{Known, Scopes, private_word, with_word, with_words, words_after_init}
-use Rattle.hx_check.specs.Resolve.{Around, resolve_expr, resolve_exprs, resolve_assignment, resolve_locals, resolve_init, resolve_stmt, resolve_part_then, resolve_parts, simples_then, words_after_part, function_at, expr_or_zero, while_clauses}
+use Rattle.hx_check.specs.Resolve.{Around, resolve_expr, resolve_exprs, resolve_assignment, resolve_locals, resolve_stmt, resolve_part_then, resolve_parts, simples_then, words_after_part, function_at, expr_or_zero}
 use Rattle.hx_check.specs.Reading as reading
 use Rattle.hx_check.specs.Reading.{Checks, ◌>>=◌, unless, check_expr, check_exprs, check_assignment, check_test, check_step, check_callee, check_locals, check_init, check_return, check_stmt, check_part, check_parts, in_scope, out_of_scope, make_loop}
 use Rattle.hx_check.specs.declared.error.CheckError.TheVariants.{OutsideLoop}
 use Rattle.hx_check.proofs.Steps.{bind_ok, bind_at, same_ok}
 use Rattle.hx_check.proofs.WhatIsNamed.{surroundings, kind_is, call_at, call_known}
-use Rattle.hx_check.proofs.Expressions.{complete, complete_all, sound, sound_all, list_of, exprs-list}
+use Rattle.hx_check.proofs.Expressions.{complete, complete_all, sound, sound_all, exprs-list}
 use Rattle.hx_check.proofs.Assignments.{at, complete_assignment, sound_assignment, complete_test, sound_test, complete_step, sound_step, complete_return, sound_return, unless_at, unless_ok, with_locals_is, after_init_is, complete_locals, sound_locals, complete_init, sound_init}
 
 -- where a resolved statement stands

@@ -1,4 +1,4 @@
-use Rattle.std.proofs.Common.{◌≡◌, ℕ, Bool, true, false, sym, ◌∙◌, ap}
+use Rattle.std.proofs.Common.{ℕ, Bool, sym, ◌∙◌, ap}
 use Rattle.hx_check.specs.Views.{resolved_clauses, resolved_stmt}
 use Rattle.hx_check.specs.Carried.{is_carried}
 use Rattle.hx_check.proofs.Filters.{filter_kept, filter_left}
