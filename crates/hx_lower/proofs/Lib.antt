@@ -1,0 +1,3 @@
+pub mod Globals
+pub mod Follow
+pub mod Setting
