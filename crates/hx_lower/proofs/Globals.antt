@@ -1,7 +1,7 @@
 -- The globals of a program, and the words that they take in a store.
 use Rattle.std.proofs.Common.{◌≡◌, ℕ, zero, suc, ◌+◌, ◌≤◌, ◌-◌, ◌<◌, Bool, true, false, List, [], ◌∷◌, ◌++◌, length, take, drop, Option, Some, None, ℤ, pos, refl, sym, ap, subst, ◌∙◌, arith, if◌then◌else◌}
-use Rattle.std.specs.Prelude.{bytes_eq, slice_set, slice_get, nat_lt, option_map}
-use Rattle.std.proofs.lemmas.List.{take-set-le, drop-set-lt, drop-set-add, length-take, length-drop}
+use Rattle.std.specs.Prelude.{bytes_eq, slice_set, slice_get, nat_lt, option_map, flat_map}
+use Rattle.std.proofs.lemmas.List.{take-set-le, drop-set-lt, drop-set-add, length-take, length-drop, take-append-drop, take-take, drop-take, drop-drop}
 use Rattle.std.proofs.Math.Seq.{take-set-lt}
 use Rattle.std.proofs.lemmas.Bool.{lt-ltb}
 use Rattle.hx_tree.specs.World.{Map, look_up, set_word, with_word, words_of}
@@ -91,3 +91,16 @@ written ((y, n) ∷ rest) a st x w i v h room lt =
         let l = within e in
         ap (option_map (λ rest'. (y, take n (drop a st)) ∷ rest')) (next e)
         ∙ ap (λ ws. Some ((y, ws) ∷ store_from rest (a + n) (slice_set st (w.base + i) v))) (sym (past a n st (w.base + i) v (omega (arith, l.0))))
+
+take-sum : (n k : ℕ) (xs : List ℤ) → take (n + k) xs ≡ take n xs ++ take k (drop n xs)
+take-sum n k xs =
+    sym (take-append-drop n (take (n + k) xs))
+    ∙ ap (λ ys. ys ++ drop n (take (n + k) xs)) (take-take n (n + k) xs (omega arith))
+    ∙ ap (λ ys. take n xs ++ ys) (drop-take n k xs)
+
+-- all their words
+pub flat_store : (lay : Layout) (a : ℕ) (st : List ℤ) → flat_map (λ entry. entry.1) (store_from lay a st) ≡ take (words_in lay) (drop a st)
+flat_store [] a st = refl
+flat_store ((x, n) ∷ rest) a st =
+    ap (λ ws. take n (drop a st) ++ ws) (flat_store rest (a + n) st ∙ ap (take (words_in rest)) (sym (drop-drop n a st)))
+    ∙ sym (take-sum n (words_in rest) (drop a st))

@@ -1,3 +1,8 @@
 pub mod Globals
 pub mod Follow
 pub mod Setting
+pub mod Stand
+pub mod At
+pub mod Known
+pub mod Names
+pub mod Values
