@@ -6,3 +6,4 @@ pub mod At
 pub mod Known
 pub mod Names
 pub mod Values
+pub mod Drafts

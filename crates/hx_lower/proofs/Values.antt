@@ -32,7 +32,7 @@ use Rattle.hx_lower.specs.Size.{expr_size}
 use Rattle.hx_lower.specs.Serves.{serves_expr}
 use Rattle.hx_lower.proofs.Globals.{Layout, store_from, words_in, place_of}
 use Rattle.hx_lower.proofs.Follow.{Follows, follows_then, follows_last, at_once}
-use Rattle.hx_lower.proofs.Setting.{Setting, Memory}
+use Rattle.hx_lower.proofs.Setting.{Ground, is_active, Memory}
 use Rattle.hx_lower.proofs.Stand.{Has, has_before, word_stands, has_expr, length-put, length-expr}
 use Rattle.hx_lower.proofs.At.{layout_of, call_at, world_at, At, at_place, goes_to, loads_to, faults_to}
 use Rattle.hx_lower.proofs.Names.{env_of, value_of, names_of, Around, int_is, array_is, word_of}
@@ -80,56 +80,56 @@ abbrev read_by : Name → Option ℤ → Run ℤ
 read_by x (Some y) = gives y
 read_by x None = read_element x (pos 0)
 
-module _ (p : Program) (code : CodeView) (S : Setting code) (v : Version) (words : code.globals ≡ words_in (layout_of p)) (globals : v.globals ≡ words_in (layout_of p)) where
+module _ (p : Program) (code : CodeView) (K : Ground) (v : Version) (words : code.globals ≡ words_in (layout_of p)) (globals : v.globals ≡ words_in (layout_of p)) (carries : (k cell : ℕ) → cell_of v.carried k ≡ Some cell → is_active K ≡ true) where
   -- a word that asks nothing, and goes on behind it
   pub word_goes : {A : Type 0} (n h : ℕ) (ps ps' os os' cells : List ℤ) (w : World) (m : Machine) (word : Word) (lines : List Line) (a : Answer A) (Done : A → World → Machine → Type 0)
-      → Has code (put v h word lines) → At p code S (length lines) ps os cells w m → wants word (call_at (length lines) ps os) ≡ Asks ask.Goes (call_at (length lines + 1) ps' os')
-      → ((m' : Machine) → At p code S (length (put v h word lines)) ps' os' cells w m' → Follows code n m' a Done) → Follows code n m a Done
+      → Has code (put v h word lines) → At p code K (length lines) ps os cells w m → wants word (call_at (length lines) ps os) ≡ Asks ask.Goes (call_at (length lines + 1) ps' os')
+      → ((m' : Machine) → At p code K (length (put v h word lines)) ps' os' cells w m' → Follows code n m' a Done) → Follows code n m a Done
   word_goes n h ps ps' os os' cells w m word lines a Done has at asks k =
-      goes_to p code S n (length lines) (length lines + 1) ps ps' os os' cells w m word a Done at (word_stands code v h word lines has) asks
-      (λ m' at'. k m' (at_place p code S (length lines + 1) _ ps' os' cells w m' (sym (length-put v h word lines)) at'))
+      goes_to p code K n (length lines) (length lines + 1) ps ps' os os' cells w m word a Done at (word_stands code v h word lines has) asks
+      (λ m' at'. k m' (at_place p code K (length lines + 1) _ ps' os' cells w m' (sym (length-put v h word lines)) at'))
 
   pub word_loads : {A : Type 0} (n h : ℕ) (ps os os' cells : List ℤ) (w : World) (m : Machine) (word : Word) (lines : List Line) (b : ℕ) (x : ℤ) (a : Answer A) (Done : A → World → Machine → Type 0)
-      → Has code (put v h word lines) → (at : At p code S (length lines) ps os cells w m) → wants word (call_at (length lines) ps os) ≡ Asks (ask.Loads b) (call_at (length lines + 1) ps os')
+      → Has code (put v h word lines) → (at : At p code K (length lines) ps os cells w m) → wants word (call_at (length lines) ps os) ≡ Asks (ask.Loads b) (call_at (length lines + 1) ps os')
       → slice_index_or at.memory.store b (pos 0) ≡ x
-      → ((m' : Machine) → At p code S (length (put v h word lines)) ps (x ∷ os') cells w m' → Follows code n m' a Done) → Follows code n m a Done
+      → ((m' : Machine) → At p code K (length (put v h word lines)) ps (x ∷ os') cells w m' → Follows code n m' a Done) → Follows code n m a Done
   word_loads n h ps os os' cells w m word lines b x a Done has at asks is k =
-      loads_to p code S n (length lines) (length lines + 1) ps os os' cells w m word b x a Done at (word_stands code v h word lines has) asks is
-      (λ m' at'. k m' (at_place p code S (length lines + 1) _ ps (x ∷ os') cells w m' (sym (length-put v h word lines)) at'))
+      loads_to p code K n (length lines) (length lines + 1) ps os os' cells w m word b x a Done at (word_stands code v h word lines has) asks is
+      (λ m' at'. k m' (at_place p code K (length lines + 1) _ ps (x ∷ os') cells w m' (sym (length-put v h word lines)) at'))
 
   -- what an expression's words leave
   abbrev pub Leaves : List Line → List ℤ → List ℤ → List ℤ → ℤ → World → Machine → Type 0
-  Leaves lines ps os cells = λ x w m. At p code S (length lines) ps (x ∷ os) cells w m
+  Leaves lines ps os cells = λ x w m. At p code K (length lines) ps (x ∷ os) cells w m
 
   -- a word that leaves a value, and nothing more
-  value_at_once : (n : ℕ) (m : Machine) (lines : List Line) (ps os cells : List ℤ) (x : ℤ) (w : World) → At p code S (length lines) ps (x ∷ os) cells w m → Follows code n m (Gives x w) (Leaves lines ps os cells)
-  value_at_once n m lines ps os cells x w at = at_once code m (λ m'. At p code S (length lines) ps (x ∷ os) cells w m') at
+  value_at_once : (n : ℕ) (m : Machine) (lines : List Line) (ps os cells : List ℤ) (x : ℤ) (w : World) → At p code K (length lines) ps (x ∷ os) cells w m → Follows code n m (Gives x w) (Leaves lines ps os cells)
+  value_at_once n m lines ps os cells x w at = at_once code m (λ m'. At p code K (length lines) ps (x ∷ os) cells w m') at
 
   -- `get` of a private word
   pub get_follows : {A : Type 0} (n h k : ℕ) (x : ℤ) (ps os cells : List ℤ) (w : World) (m : Machine) (lines : List Line) (a : Answer A) (Done : A → World → Machine → Type 0)
-      → Has code (put v h (get_private v k) lines) → At p code S (length lines) ps os cells w m → x ≡ value_at v ps cells k
-      → ((m' : Machine) → At p code S (length (put v h (get_private v k) lines)) ps (x ∷ os) cells w m' → Follows code n m' a Done) → Follows code n m a Done
-  get_follows n h k x ps os cells w m lines a Done has at is go_on = go (cell_of v.carried k) has is go_on
+      → Has code (put v h (get_private v k) lines) → At p code K (length lines) ps os cells w m → x ≡ value_at v ps cells k
+      → ((m' : Machine) → At p code K (length (put v h (get_private v k) lines)) ps (x ∷ os) cells w m' → Follows code n m' a Done) → Follows code n m a Done
+  get_follows n h k x ps os cells w m lines a Done has at is go_on = go (cell_of v.carried k) refl has is go_on
     where
-      go : (o : Option ℕ) → Has code (put v h (get_at o v.globals k) lines) → x ≡ private_value o ps cells k
-          → ((m' : Machine) → At p code S (length (put v h (get_at o v.globals k) lines)) ps (x ∷ os) cells w m' → Follows code n m' a Done) → Follows code n m a Done
-      go None has is go_on =
+      go : (o : Option ℕ) → cell_of v.carried k ≡ o → Has code (put v h (get_at o v.globals k) lines) → x ≡ private_value o ps cells k
+          → ((m' : Machine) → At p code K (length (put v h (get_at o v.globals k) lines)) ps (x ∷ os) cells w m' → Follows code n m' a Done) → Follows code n m a Done
+      go None e has is go_on =
           word_goes n h ps ps os (x ∷ os) cells w m (Priv k) lines a Done has at (ap (λ y. Asks ask.Goes (call_at (length lines + 1) ps (y ∷ os))) (sym is)) go_on
-      go (Some cell) has is go_on =
+      go (Some cell) e has is go_on =
           word_loads n h ps os os cells w m (Glob (v.globals + cell)) lines (v.globals + cell) x a Done has at refl
           (ap (λ g. slice_index_or at.memory.store (g + cell) (pos 0)) globals
           ∙ sym (get_or-drop (words_in (layout_of p)) at.memory.store cell (pos 0))
-          ∙ ap (λ cs. slice_index_or cs cell (pos 0)) at.cells_are ∙ sym is) go_on
+          ∙ ap (λ cs. slice_index_or cs cell (pos 0)) (at.cells_are (carries k cell e)) ∙ sym is) go_on
 
   -- a binary operator on two values
   pub operator_follows : {A : Type 0} (n h : ℕ) (o : Operator) (place : Pos) (x y : ℤ) (ps os cells : List ℤ) (w : World) (m : Machine) (lines : List Line) (f : ℤ → Run A) (Done : A → World → Machine → Type 0)
-      → Has code (put v h (Binary o place) lines) → At p code S (length lines) ps (y ∷ (x ∷ os)) cells w m
-      → ((z : ℤ) (m' : Machine) → At p code S (length (put v h (Binary o place) lines)) ps (z ∷ os) cells w m' → Follows code n m' (f z w) Done) → Follows code n m ((operate o place x y >>= f) w) Done
+      → Has code (put v h (Binary o place) lines) → At p code K (length lines) ps (y ∷ (x ∷ os)) cells w m
+      → ((z : ℤ) (m' : Machine) → At p code K (length (put v h (Binary o place) lines)) ps (z ∷ os) cells w m' → Follows code n m' (f z w) Done) → Follows code n m ((operate o place x y >>= f) w) Done
   operator_follows n h o place x y ps os cells w m lines f Done has at go_on = go (operator_value o x y) refl
     where
       go : (q : Option ℤ) → operator_value o x y ≡ q → Follows code n m ((or_fault ZeroDivisor place q >>= f) w) Done
       go None e =
-          faults_to p code S n (length lines) ps (y ∷ (x ∷ os)) cells w m (Binary o place) (call_at (length lines) ps (y ∷ (x ∷ os))) (fault_at ZeroDivisor place) Done words at (word_stands code v h _ lines has)
+          faults_to p code K n (length lines) ps (y ∷ (x ∷ os)) cells w m (Binary o place) (call_at (length lines) ps (y ∷ (x ∷ os))) (fault_at ZeroDivisor place) Done words at (word_stands code v h _ lines has)
           (ap (λ q. or_asks ZeroDivisor place (call_at (length lines) ps (y ∷ (x ∷ os))) q (λ z. Asks ask.Goes (call_at (length lines + 1) ps (z ∷ os)))) e)
       go (Some z) e =
           word_goes n h ps ps (y ∷ (x ∷ os)) (z ∷ os) cells w m (Binary o place) lines (f z w) Done has at
@@ -138,30 +138,30 @@ module _ (p : Program) (code : CodeView) (S : Setting code) (v : Version) (words
 
   -- a test on top, which jumps or not
   pub jump_follows : {A : Type 0} (n h to : ℕ) (x : ℤ) (ps os cells : List ℤ) (w : World) (m : Machine) (lines : List Line) (zero_goes other_goes : Run A) (Done : A → World → Machine → Type 0)
-      → Has code (put v h (JumpFalse to) lines) → At p code S (length lines) ps (x ∷ os) cells w m
-      → ((m' : Machine) → At p code S to ps os cells w m' → Follows code n m' (zero_goes w) Done)
-      → ((m' : Machine) → At p code S (length (put v h (JumpFalse to) lines)) ps os cells w m' → Follows code n m' (other_goes w) Done)
+      → Has code (put v h (JumpFalse to) lines) → At p code K (length lines) ps (x ∷ os) cells w m
+      → ((m' : Machine) → At p code K to ps os cells w m' → Follows code n m' (zero_goes w) Done)
+      → ((m' : Machine) → At p code K (length (put v h (JumpFalse to) lines)) ps os cells w m' → Follows code n m' (other_goes w) Done)
       → Follows code n m ((if is_zero x then zero_goes else other_goes) w) Done
   jump_follows n h to x ps os cells w m lines zero_goes other_goes Done has at if_zero if_other = go (is_zero x) refl
     where
       go : (b : Bool) → is_zero x ≡ b → Follows code n m ((if b then zero_goes else other_goes) w) Done
       go true e =
-          goes_to p code S n (length lines) to ps ps (x ∷ os) os cells w m (JumpFalse to) (zero_goes w) Done at (word_stands code v h _ lines has)
+          goes_to p code K n (length lines) to ps ps (x ∷ os) os cells w m (JumpFalse to) (zero_goes w) Done at (word_stands code v h _ lines has)
           (ap (λ b. if b then Asks ask.Goes (call_at to ps os) else Asks ask.Goes (call_at (length lines + 1) ps os)) e) if_zero
       go false e =
           word_goes n h ps ps (x ∷ os) os cells w m (JumpFalse to) lines (other_goes w) Done has at
           (ap (λ b. if b then Asks ask.Goes (call_at to ps os) else Asks ask.Goes (call_at (length lines + 1) ps os)) e) if_other
 
   pub jump_true_follows : {A : Type 0} (n h to : ℕ) (x : ℤ) (ps os cells : List ℤ) (w : World) (m : Machine) (lines : List Line) (other_goes zero_goes : Run A) (Done : A → World → Machine → Type 0)
-      → Has code (put v h (JumpTrue to) lines) → At p code S (length lines) ps (x ∷ os) cells w m
-      → ((m' : Machine) → At p code S to ps os cells w m' → Follows code n m' (other_goes w) Done)
-      → ((m' : Machine) → At p code S (length (put v h (JumpTrue to) lines)) ps os cells w m' → Follows code n m' (zero_goes w) Done)
+      → Has code (put v h (JumpTrue to) lines) → At p code K (length lines) ps (x ∷ os) cells w m
+      → ((m' : Machine) → At p code K to ps os cells w m' → Follows code n m' (other_goes w) Done)
+      → ((m' : Machine) → At p code K (length (put v h (JumpTrue to) lines)) ps os cells w m' → Follows code n m' (zero_goes w) Done)
       → Follows code n m ((if not (is_zero x) then other_goes else zero_goes) w) Done
   jump_true_follows n h to x ps os cells w m lines other_goes zero_goes Done has at if_other if_zero = go (is_zero x) refl
     where
       go : (b : Bool) → is_zero x ≡ b → Follows code n m ((if not b then other_goes else zero_goes) w) Done
       go false e =
-          goes_to p code S n (length lines) to ps ps (x ∷ os) os cells w m (JumpTrue to) (other_goes w) Done at (word_stands code v h _ lines has)
+          goes_to p code K n (length lines) to ps ps (x ∷ os) os cells w m (JumpTrue to) (other_goes w) Done at (word_stands code v h _ lines has)
           (ap (λ b. if b then Asks ask.Goes (call_at (length lines + 1) ps os) else Asks ask.Goes (call_at to ps os)) e) if_other
       go true e =
           word_goes n h ps ps (x ∷ os) os cells w m (JumpTrue to) lines (zero_goes w) Done has at
@@ -170,8 +170,8 @@ module _ (p : Program) (code : CodeView) (S : Setting code) (v : Version) (words
   -- an element of an array on top
   pub element_follows : {A : Type 0} (n h : ℕ) (x : Name) (i : ℤ) (ws : Words) (ps os cells : List ℤ) (w : World) (m : Machine) (lines : List Line) (f : ℤ → Run A) (Done : A → World → Machine → Type 0)
       → place_of (layout_of p) 0 x.text ≡ Some ws
-      → Has code (put v h (Elem (array_of ws) x.pos) lines) → At p code S (length lines) ps (i ∷ os) cells w m
-      → ((z : ℤ) (m' : Machine) → At p code S (length (put v h (Elem (array_of ws) x.pos) lines)) ps (z ∷ os) cells w m' → Follows code n m' (f z w) Done) → Follows code n m ((read_element x i >>= f) w) Done
+      → Has code (put v h (Elem (array_of ws) x.pos) lines) → At p code K (length lines) ps (i ∷ os) cells w m
+      → ((z : ℤ) (m' : Machine) → At p code K (length (put v h (Elem (array_of ws) x.pos) lines)) ps (z ∷ os) cells w m' → Follows code n m' (f z w) Done) → Follows code n m ((read_element x i >>= f) w) Done
   element_follows n h x i ws ps os cells w m lines f Done lies has at go_on =
       subst (λ o. Follows code n m ((or_fault IndexOutOfRange x.pos o >>= f) w) Done)
       (sym (ap (λ (u : World). word_at (words_of u.store x.text) i) at.world ∙ word_of (layout_of p) at.memory.store x.text ws i lies at.room))
@@ -180,7 +180,7 @@ module _ (p : Program) (code : CodeView) (S : Setting code) (v : Version) (words
       go : (q : Option ℕ) → at_index i ws.length ≡ q
           → Follows code n m ((or_fault IndexOutOfRange x.pos (option_map (λ k. slice_index_or at.memory.store (ws.base + k) (pos 0)) q) >>= f) w) Done
       go None e =
-          faults_to p code S n (length lines) ps (i ∷ os) cells w m (Elem (array_of ws) x.pos) (call_at (length lines) ps (i ∷ os)) (fault_at IndexOutOfRange x.pos) Done words at (word_stands code v h _ lines has)
+          faults_to p code K n (length lines) ps (i ∷ os) cells w m (Elem (array_of ws) x.pos) (call_at (length lines) ps (i ∷ os)) (fault_at IndexOutOfRange x.pos) Done words at (word_stands code v h _ lines has)
           (ap (λ q. or_asks IndexOutOfRange x.pos (call_at (length lines) ps (i ∷ os)) q (λ k. Asks (ask.Loads (ws.base + k)) (call_at (length lines + 1) ps os))) e)
       go (Some k) e =
           word_loads n h ps (i ∷ os) os cells w m (Elem (array_of ws) x.pos) lines (ws.base + k) _ (f _ w) Done has at
@@ -189,7 +189,7 @@ module _ (p : Program) (code : CodeView) (S : Setting code) (v : Version) (words
 
   -- a local, or else a global
   variable_follows : (scopes : Scopes) (here : Surroundings) → Around p scopes here → (x : Name) → kind_of x here ≡ Some IntKind
-      → (n h : ℕ) (held : ℕ → ℤ) (ps os cells : List ℤ) (lines : List Line) (w : World) (m : Machine) → At p code S (length lines) ps os cells w m
+      → (n h : ℕ) (held : ℕ → ℤ) (ps os cells : List ℤ) (lines : List Line) (w : World) (m : Machine) → At p code K (length lines) ps os cells w m
       → (o : Option ℕ) → private_word scopes x.text ≡ o → Reads v ps cells held (λ k. expr_reads k (variable o (word_named x (symbols_of p))))
       → Has code (expr_lines (variable o (word_named x (symbols_of p))) v h lines)
       → Follows code n m (read_by x (option_map held o) w) (Leaves (expr_lines (variable o (word_named x (symbols_of p))) v h lines) ps os cells)
@@ -215,7 +215,7 @@ module _ (p : Program) (code : CodeView) (S : Setting code) (v : Version) (words
     pub value_follows : (e : tree.Expr) → AcceptsExpr e here → IsTrue (serves_expr (resolve_expr e (symbols_of p) scopes))
         → (n h : ℕ) (held : ℕ → ℤ) (ps os cells : List ℤ) → Reads v ps cells held (λ k. expr_reads k (resolve_expr e (symbols_of p) scopes))
         → (lines : List Line) → Has code (expr_lines (resolve_expr e (symbols_of p) scopes) v h lines)
-        → (w : World) (m : Machine) → At p code S (length lines) ps os cells w m
+        → (w : World) (m : Machine) → At p code K (length lines) ps os cells w m
         → Follows code n m (value e call (env_of scopes held) w) (Leaves (expr_lines (resolve_expr e (symbols_of p) scopes) v h lines) ps os cells)
     value_follows (tree.Number k) ok served n h held ps os cells reads lines has w m at =
         word_goes n h ps ps os (pos k ∷ os) cells w m (Const (pos k)) lines (Gives (pos k) w) (Leaves (put v h (Const (pos k)) lines) ps os cells) has at refl (λ m' at'. value_at_once n m' _ ps os cells (pos k) w at')
@@ -262,12 +262,12 @@ module _ (p : Program) (code : CodeView) (S : Setting code) (v : Version) (words
         let has_b = has_expr code (R r) v h b has_c in
         let len : to ≡ length f = omega (arith, length-expr (R l) v h lines, length-put v (h + 1) (JumpFalse to) a, length-expr (R r) v h b, length-put v (h + 1) (JumpFalse to) c, length-put v h (Const (pos 1)) d, length-put v (h + 1) (Jump (to + 1)) e) in
         let len' : to + 1 ≡ length done = ap (λ k. k + 1) len ∙ sym (length-put v h (Const (pos 0)) f) in
-        let on_zero : (w' : World) (m' : Machine) → At p code S to ps os cells w' m' → Follows code n m' (Gives (pos 0) w') (Leaves done ps os cells) = λ w' m' at'.
-        word_goes n h ps ps os (pos 0 ∷ os) cells w' m' (Const (pos 0)) f (Gives (pos 0) w') (Leaves done ps os cells) has (at_place p code S to (length f) ps os cells w' m' len at') refl (λ m'' at''. value_at_once n m'' _ ps os cells (pos 0) w' at'') in
-        let on_one : (w' : World) (m' : Machine) → At p code S (length d) ps os cells w' m' → Follows code n m' (Gives (pos 1) w') (Leaves done ps os cells) = λ w' m' at'.
+        let on_zero : (w' : World) (m' : Machine) → At p code K to ps os cells w' m' → Follows code n m' (Gives (pos 0) w') (Leaves done ps os cells) = λ w' m' at'.
+        word_goes n h ps ps os (pos 0 ∷ os) cells w' m' (Const (pos 0)) f (Gives (pos 0) w') (Leaves done ps os cells) has (at_place p code K to (length f) ps os cells w' m' len at') refl (λ m'' at''. value_at_once n m'' _ ps os cells (pos 0) w' at'') in
+        let on_one : (w' : World) (m' : Machine) → At p code K (length d) ps os cells w' m' → Follows code n m' (Gives (pos 1) w') (Leaves done ps os cells) = λ w' m' at'.
         word_goes n h ps ps os (pos 1 ∷ os) cells w' m' (Const (pos 1)) d (Gives (pos 1) w') (Leaves done ps os cells) has_e at' refl
-        (λ m'' at''. goes_to p code S n (length e) (to + 1) ps ps (pos 1 ∷ os) (pos 1 ∷ os) cells w' m'' (Jump (to + 1)) (Gives (pos 1) w') (Leaves done ps os cells) at'' (word_stands code v (h + 1) (Jump (to + 1)) e has_f) refl
-        (λ m3 at3. value_at_once n m3 done ps os cells (pos 1) w' (at_place p code S (to + 1) (length done) ps (pos 1 ∷ os) cells w' m3 len' at3))) in
+        (λ m'' at''. goes_to p code K n (length e) (to + 1) ps ps (pos 1 ∷ os) (pos 1 ∷ os) cells w' m'' (Jump (to + 1)) (Gives (pos 1) w') (Leaves done ps os cells) at'' (word_stands code v (h + 1) (Jump (to + 1)) e has_f) refl
+        (λ m3 at3. value_at_once n m3 done ps os cells (pos 1) w' (at_place p code K (to + 1) (length done) ps (pos 1 ∷ os) cells w' m3 len' at3))) in
         follows_then code n m (value l call (env_of scopes held) w) (λ x. if is_zero x then gives (pos 0) else (value r call (env_of scopes held) >>= (λ y. gives (truth (not (is_zero y)))))) (Leaves a ps os cells) (Leaves done ps os cells)
         (value_follows l ok.0 (and_left _ _ served) n h held ps os cells (λ k e. reads k (or_left _ _ e)) lines (has_before code v (h + 1) (JumpFalse to) a has_b) w m at)
         (λ x w' m' at'. jump_follows n (h + 1) to x ps os cells w' m' a (gives (pos 0)) (value r call (env_of scopes held) >>= (λ y. gives (truth (not (is_zero y))))) (Leaves done ps os cells) has_b at' (on_zero w')
@@ -291,12 +291,12 @@ module _ (p : Program) (code : CodeView) (S : Setting code) (v : Version) (words
         let has_b = has_expr code (R r) v h b has_c in
         let len : to ≡ length f = omega (arith, length-expr (R l) v h lines, length-put v (h + 1) (JumpTrue to) a, length-expr (R r) v h b, length-put v (h + 1) (JumpTrue to) c, length-put v h (Const (pos 0)) d, length-put v (h + 1) (Jump (to + 1)) e) in
         let len' : to + 1 ≡ length done = ap (λ k. k + 1) len ∙ sym (length-put v h (Const (pos 1)) f) in
-        let on_one : (w' : World) (m' : Machine) → At p code S to ps os cells w' m' → Follows code n m' (Gives (pos 1) w') (Leaves done ps os cells) = λ w' m' at'.
-        word_goes n h ps ps os (pos 1 ∷ os) cells w' m' (Const (pos 1)) f (Gives (pos 1) w') (Leaves done ps os cells) has (at_place p code S to (length f) ps os cells w' m' len at') refl (λ m'' at''. value_at_once n m'' _ ps os cells (pos 1) w' at'') in
-        let on_zero : (w' : World) (m' : Machine) → At p code S (length d) ps os cells w' m' → Follows code n m' (Gives (pos 0) w') (Leaves done ps os cells) = λ w' m' at'.
+        let on_one : (w' : World) (m' : Machine) → At p code K to ps os cells w' m' → Follows code n m' (Gives (pos 1) w') (Leaves done ps os cells) = λ w' m' at'.
+        word_goes n h ps ps os (pos 1 ∷ os) cells w' m' (Const (pos 1)) f (Gives (pos 1) w') (Leaves done ps os cells) has (at_place p code K to (length f) ps os cells w' m' len at') refl (λ m'' at''. value_at_once n m'' _ ps os cells (pos 1) w' at'') in
+        let on_zero : (w' : World) (m' : Machine) → At p code K (length d) ps os cells w' m' → Follows code n m' (Gives (pos 0) w') (Leaves done ps os cells) = λ w' m' at'.
         word_goes n h ps ps os (pos 0 ∷ os) cells w' m' (Const (pos 0)) d (Gives (pos 0) w') (Leaves done ps os cells) has_e at' refl
-        (λ m'' at''. goes_to p code S n (length e) (to + 1) ps ps (pos 0 ∷ os) (pos 0 ∷ os) cells w' m'' (Jump (to + 1)) (Gives (pos 0) w') (Leaves done ps os cells) at'' (word_stands code v (h + 1) (Jump (to + 1)) e has_f) refl
-        (λ m3 at3. value_at_once n m3 done ps os cells (pos 0) w' (at_place p code S (to + 1) (length done) ps (pos 0 ∷ os) cells w' m3 len' at3))) in
+        (λ m'' at''. goes_to p code K n (length e) (to + 1) ps ps (pos 0 ∷ os) (pos 0 ∷ os) cells w' m'' (Jump (to + 1)) (Gives (pos 0) w') (Leaves done ps os cells) at'' (word_stands code v (h + 1) (Jump (to + 1)) e has_f) refl
+        (λ m3 at3. value_at_once n m3 done ps os cells (pos 0) w' (at_place p code K (to + 1) (length done) ps (pos 0 ∷ os) cells w' m3 len' at3))) in
         follows_then code n m (value l call (env_of scopes held) w) (λ x. if not (is_zero x) then gives (pos 1) else (value r call (env_of scopes held) >>= (λ y. gives (truth (not (is_zero y)))))) (Leaves a ps os cells) (Leaves done ps os cells)
         (value_follows l ok.0 (and_left _ _ served) n h held ps os cells (λ k e. reads k (or_left _ _ e)) lines (has_before code v (h + 1) (JumpTrue to) a has_b) w m at)
         (λ x w' m' at'. jump_true_follows n (h + 1) to x ps os cells w' m' a (gives (pos 1)) (value r call (env_of scopes held) >>= (λ y. gives (truth (not (is_zero y))))) (Leaves done ps os cells) has_b at' (on_one w')
