@@ -7,3 +7,6 @@ pub mod Known
 pub mod Names
 pub mod Values
 pub mod Drafts
+pub mod Scene
+pub mod Writes
+pub mod Assigns

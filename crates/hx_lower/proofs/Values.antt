@@ -76,7 +76,7 @@ same_number : (k : ℕ) → nat_eq k k ≡ true
 same_number k = grind (arith, nat_tests)
 
 -- the value of a local, or else of a global
-abbrev read_by : Name → Option ℤ → Run ℤ
+abbrev pub read_by : Name → Option ℤ → Run ℤ
 read_by x (Some y) = gives y
 read_by x None = read_element x (pos 0)
 
@@ -188,7 +188,7 @@ module _ (p : Program) (code : CodeView) (K : Ground) (v : Version) (words : cod
           refl (go_on _)
 
   -- a local, or else a global
-  variable_follows : (scopes : Scopes) (here : Surroundings) → Around p scopes here → (x : Name) → kind_of x here ≡ Some IntKind
+  pub variable_follows : (scopes : Scopes) (here : Surroundings) → Around p scopes here → (x : Name) → kind_of x here ≡ Some IntKind
       → (n h : ℕ) (held : ℕ → ℤ) (ps os cells : List ℤ) (lines : List Line) (w : World) (m : Machine) → At p code K (length lines) ps os cells w m
       → (o : Option ℕ) → private_word scopes x.text ≡ o → Reads v ps cells held (λ k. expr_reads k (variable o (word_named x (symbols_of p))))
       → Has code (expr_lines (variable o (word_named x (symbols_of p))) v h lines)
