@@ -64,6 +64,15 @@ module _ (p : Program) (code : CodeView) (K : Ground) where
       (ap (machine_step code) h.is ∙ S.goes _ _ h.memory (wanted (call_at place ps os) word stands ∙ asks))
       (k _ (record { memory = h.memory; is = refl; world = h.world; room = h.room; cells_are = h.cells_are }))
 
+  -- a word that asks nothing, at the end of a turn
+  pub turns_back : {A : Type 0} (n place place' : ℕ) (ps ps' os os' cells : List ℤ) (w : World) (m : Machine) (word : Word) (a : Answer A) (Done : A → World → Machine → Type 0)
+      → At place ps os cells w m → slice_get code.words place ≡ Some word → wants word (call_at place ps os) ≡ Asks ask.Goes (call_at place' ps' os')
+      → ((m' : Machine) → At place' ps' os' cells w m' → Follows code n m' a Done) → Follows code (suc n) m a Done
+  turns_back n place place' ps ps' os os' cells w m word a Done h stands asks k =
+      turns_to code n m (S.here (call_at place' ps' os') h.memory) a Done
+      (ap (machine_step code) h.is ∙ S.goes _ _ h.memory (wanted (call_at place ps os) word stands ∙ asks))
+      (k _ (record { memory = h.memory; is = refl; world = h.world; room = h.room; cells_are = h.cells_are }))
+
   -- a word of the store on top
   pub loads_to : {A : Type 0} (n place place' : ℕ) (ps os os' cells : List ℤ) (w : World) (m : Machine) (word : Word) (b : ℕ) (v : ℤ) (a : Answer A) (Done : A → World → Machine → Type 0)
       → (h : At place ps os cells w m) → slice_get code.words place ≡ Some word → wants word (call_at place ps os) ≡ Asks (ask.Loads b) (call_at place' ps os')

@@ -10,3 +10,4 @@ pub mod Drafts
 pub mod Scene
 pub mod Writes
 pub mod Assigns
+pub mod Loops
