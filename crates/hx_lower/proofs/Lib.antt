@@ -11,3 +11,4 @@ pub mod Scene
 pub mod Writes
 pub mod Assigns
 pub mod Loops
+pub mod Regions
