@@ -12,3 +12,4 @@ pub mod Writes
 pub mod Assigns
 pub mod Loops
 pub mod Regions
+pub mod Marked
