@@ -21,21 +21,21 @@ use Rattle.hx_code.specs.Call.{CallView, Asks, wants, wants_of, wants_at}
 use Rattle.hx_code.specs.Local.{begun}
 use Rattle.hx_code.specs.Region.{into_cells, from_cells, iteration_words}
 use Rattle.hx_code.specs.Machine.{Machine, machine_step}
-use Rattle.hx_lower.specs.declared.line.Line.{Line}
-use Rattle.hx_lower.specs.Lines.{Version, put, cell_of, test_lines, step_lines}
-use Rattle.hx_lower.specs.Size.{test_size, step_size, turn_size, stmt_size}
-use Rattle.hx_lower.specs.Draft.{Draft, Targets, with_lines, put_word, inside, targets, turn_draft, plain_draft, turns_draft, region_at, region_draft, stmt_draft}
-use Rattle.hx_lower.specs.Serves.{serves_test, serves_step}
-use Rattle.hx_lower.proofs.Globals.{Layout, store_from, words_in, elsewhere_behind}
-use Rattle.hx_lower.proofs.Follow.{Follows, steps_to, turns_to, at_once}
-use Rattle.hx_lower.proofs.Setting.{Memory, Ground, Outside, Inside, Opener, is_active, at_outside, at_inside, opens_at, turns_at, leaves_at, enters_plain, memory_behind, Back, setting_of}
-use Rattle.hx_lower.proofs.Stand.{Has, has_before, word_stands, length-put}
-use Rattle.hx_lower.proofs.At.{layout_of, call_at, world_at, At, at_place}
-use Rattle.hx_lower.proofs.Names.{env_of, Around}
-use Rattle.hx_lower.proofs.Scene.{Scene, Fair, Stands, Came, EndsBy, Ends, held, turns_follow}
-use Rattle.hx_lower.proofs.Assigns.{Free}
-use Rattle.hx_lower.proofs.Drafts.{HasDraft, has_word, has_lines, has_step, has_test, has_stmt, has_turns, has_plain, has_region, length-test, length-step, length-stmt, length-turns, length-plain}
-use Rattle.hx_lower.proofs.Loops.{test_here, step_here, tested, stepped, within, clauses_of, plain_follows}
+use Rattle.hx_lowering.specs.declared.line.Line.{Line}
+use Rattle.hx_lowering.specs.Lines.{Version, put, cell_of, test_lines, step_lines}
+use Rattle.hx_lowering.specs.Size.{test_size, step_size, turn_size, stmt_size}
+use Rattle.hx_lowering.specs.Draft.{Draft, Targets, with_lines, put_word, inside, targets, turn_draft, plain_draft, turns_draft, region_at, region_draft, stmt_draft}
+use Rattle.hx_lowering.specs.Serves.{serves_test, serves_step}
+use Rattle.hx_lowering.proofs.Globals.{Layout, store_from, words_in, elsewhere_behind}
+use Rattle.hx_lowering.proofs.Follow.{Follows, steps_to, turns_to, at_once}
+use Rattle.hx_lowering.proofs.Setting.{Memory, Ground, Outside, Inside, Opener, is_active, at_outside, at_inside, opens_at, turns_at, leaves_at, enters_plain, memory_behind, Back, setting_of}
+use Rattle.hx_lowering.proofs.Stand.{Has, has_before, word_stands, length-put}
+use Rattle.hx_lowering.proofs.At.{layout_of, call_at, world_at, At, at_place}
+use Rattle.hx_lowering.proofs.Names.{env_of, Around}
+use Rattle.hx_lowering.proofs.Scene.{Scene, Fair, Stands, Came, EndsBy, Ends, held, turns_follow}
+use Rattle.hx_lowering.proofs.Assigns.{Free}
+use Rattle.hx_lowering.proofs.Drafts.{HasDraft, has_word, has_lines, has_step, has_test, has_stmt, has_turns, has_plain, has_region, length-test, length-step, length-stmt, length-turns, length-plain}
+use Rattle.hx_lowering.proofs.Loops.{test_here, step_here, tested, stepped, within, clauses_of, plain_follows}
 
 -- cells stand behind the globals
 pub cells_behind : (lay : Layout) (globals : ℕ) → globals ≡ words_in lay → (cs : List Carried) (ps st : List ℤ) → store_from lay 0 (into_cells globals cs ps st) ≡ store_from lay 0 st

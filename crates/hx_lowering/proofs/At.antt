@@ -18,10 +18,10 @@ use Rattle.hx_code.specs.declared.word.Ask.TheVariants as ask
 use Rattle.hx_code.specs.Code.{CodeView}
 use Rattle.hx_code.specs.Call.{CallView, Want, Asks, wants, wants_of, wants_at, fault_at, bytes_of}
 use Rattle.hx_code.specs.Machine.{Machine, machine_step}
-use Rattle.hx_lower.specs.Correct.{Shows}
-use Rattle.hx_lower.proofs.Globals.{Layout, store_from, words_in, flat_store}
-use Rattle.hx_lower.proofs.Follow.{Follows, Reaches, steps_to, turns_to, faults_at, at_once}
-use Rattle.hx_lower.proofs.Setting.{Memory, with_store, with_text, Ended, Setting, Ground, setting_of, is_active}
+use Rattle.hx_lowering.specs.Correct.{Shows}
+use Rattle.hx_lowering.proofs.Globals.{Layout, store_from, words_in, flat_store}
+use Rattle.hx_lowering.proofs.Follow.{Follows, Reaches, steps_to, turns_to, faults_at, at_once}
+use Rattle.hx_lowering.proofs.Setting.{Memory, with_store, with_text, Ended, Setting, Ground, setting_of, is_active}
 
 abbrev pub layout_of : Program → Layout
 layout_of p = map (λ g. (g.name.text, shape_words g.shape)) (globals_of p)

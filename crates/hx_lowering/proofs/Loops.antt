@@ -16,21 +16,21 @@ use Rattle.hx_check.specs.Resolve.{resolve_expr, resolve_assignment}
 use Rattle.hx_code.specs.declared.word.Word.TheVariants.{Jump, JumpFalse}
 use Rattle.hx_code.specs.Code.{CodeView}
 use Rattle.hx_code.specs.Machine.{Machine}
-use Rattle.hx_lower.specs.declared.line.Line.{Line}
-use Rattle.hx_lower.specs.Lines.{Version, put, expr_lines, test_lines, step_lines}
-use Rattle.hx_lower.specs.Size.{test_size, step_size, turn_size, stmt_size}
-use Rattle.hx_lower.specs.Draft.{Draft, Targets, with_lines, put_word, targets, turn_draft, plain_draft, stmt_draft}
-use Rattle.hx_lower.specs.Serves.{serves_test, serves_step}
-use Rattle.hx_lower.proofs.Globals.{words_in}
-use Rattle.hx_lower.proofs.Follow.{Follows, follows_then, follows_fewer, at_once}
-use Rattle.hx_lower.proofs.Setting.{Ground}
-use Rattle.hx_lower.proofs.Stand.{Has, has_before, word_stands, length-put}
-use Rattle.hx_lower.proofs.At.{layout_of, At, at_place, turns_back}
-use Rattle.hx_lower.proofs.Names.{env_of, Around}
-use Rattle.hx_lower.proofs.Values.{Leaves, jump_follows}
-use Rattle.hx_lower.proofs.Scene.{Scene, Fair, Stands, Came, EndsBy, Ends, held, turns_follow}
-use Rattle.hx_lower.proofs.Assigns.{Free, value_here, assign_follows, Behind}
-use Rattle.hx_lower.proofs.Drafts.{HasDraft, has_word, has_lines, has_step, has_test, has_stmt, length-test, length-step, length-stmt}
+use Rattle.hx_lowering.specs.declared.line.Line.{Line}
+use Rattle.hx_lowering.specs.Lines.{Version, put, expr_lines, test_lines, step_lines}
+use Rattle.hx_lowering.specs.Size.{test_size, step_size, turn_size, stmt_size}
+use Rattle.hx_lowering.specs.Draft.{Draft, Targets, with_lines, put_word, targets, turn_draft, plain_draft, stmt_draft}
+use Rattle.hx_lowering.specs.Serves.{serves_test, serves_step}
+use Rattle.hx_lowering.proofs.Globals.{words_in}
+use Rattle.hx_lowering.proofs.Follow.{Follows, follows_then, follows_fewer, at_once}
+use Rattle.hx_lowering.proofs.Setting.{Ground}
+use Rattle.hx_lowering.proofs.Stand.{Has, has_before, word_stands, length-put}
+use Rattle.hx_lowering.proofs.At.{layout_of, At, at_place, turns_back}
+use Rattle.hx_lowering.proofs.Names.{env_of, Around}
+use Rattle.hx_lowering.proofs.Values.{Leaves, jump_follows}
+use Rattle.hx_lowering.proofs.Scene.{Scene, Fair, Stands, Came, EndsBy, Ends, held, turns_follow}
+use Rattle.hx_lowering.proofs.Assigns.{Free, value_here, assign_follows, Behind}
+use Rattle.hx_lowering.proofs.Drafts.{HasDraft, has_word, has_lines, has_step, has_test, has_stmt, length-test, length-step, length-stmt}
 
 module _ (p : Program) (code : CodeView) (words : code.globals ≡ words_in (layout_of p)) where
   module _ (s : Scene) (fair : Fair p code s) (scopes : Scopes) (here : Surroundings) (around : Around p scopes here) (call : Calling) where

@@ -6,9 +6,9 @@ use Rattle.hx_code.specs.declared.word.Word.{Word}
 use Rattle.hx_code.specs.declared.word.Word.TheVariants.{Const, Drop, Jump, JumpFalse, Call, Ret, Print, Emit, Enter, Turn, Leave}
 use Rattle.hx_code.specs.declared.table.Carried.{Carried}
 use Rattle.hx_code.specs.Code.{FuncView, RegionView, CodeView}
-use Rattle.hx_lower.specs.declared.line.Line.{Line}
-use Rattle.hx_lower.specs.Size.{expr_size, test_size, step_size, turn_size, stmt_size}
-use Rattle.hx_lower.specs.Lines.{Version, put, array_of, count, expr_lines, exprs_lines, simple_lines, simples_lines, test_lines, step_lines}
+use Rattle.hx_lowering.specs.declared.line.Line.{Line}
+use Rattle.hx_lowering.specs.Size.{expr_size, test_size, step_size, turn_size, stmt_size}
+use Rattle.hx_lowering.specs.Lines.{Version, put, array_of, count, expr_lines, exprs_lines, simple_lines, simples_lines, test_lines, step_lines}
 
 -- what stands so far
 pub record Draft : Type 0 where

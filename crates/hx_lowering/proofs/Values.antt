@@ -26,16 +26,16 @@ use Rattle.hx_code.specs.declared.table.Carried.{Carried}
 use Rattle.hx_code.specs.Code.{CodeView}
 use Rattle.hx_code.specs.Call.{or_fault as or_asks, CallView, Want, Asks, wants, at_index, element, fault_at}
 use Rattle.hx_code.specs.Machine.{Machine}
-use Rattle.hx_lower.specs.declared.line.Line.{Line}
-use Rattle.hx_lower.specs.Lines.{Version, put, cell_of, get_at, get_private, array_of, expr_lines}
-use Rattle.hx_lower.specs.Size.{expr_size}
-use Rattle.hx_lower.specs.Serves.{serves_expr}
-use Rattle.hx_lower.proofs.Globals.{Layout, store_from, words_in, place_of}
-use Rattle.hx_lower.proofs.Follow.{Follows, follows_then, follows_last, at_once}
-use Rattle.hx_lower.proofs.Setting.{Ground, is_active, Memory}
-use Rattle.hx_lower.proofs.Stand.{Has, has_before, word_stands, has_expr, length-put, length-expr}
-use Rattle.hx_lower.proofs.At.{layout_of, call_at, world_at, At, at_place, goes_to, loads_to, faults_to}
-use Rattle.hx_lower.proofs.Names.{env_of, value_of, names_of, Around, int_is, array_is, word_of}
+use Rattle.hx_lowering.specs.declared.line.Line.{Line}
+use Rattle.hx_lowering.specs.Lines.{Version, put, cell_of, get_at, get_private, array_of, expr_lines}
+use Rattle.hx_lowering.specs.Size.{expr_size}
+use Rattle.hx_lowering.specs.Serves.{serves_expr}
+use Rattle.hx_lowering.proofs.Globals.{Layout, store_from, words_in, place_of}
+use Rattle.hx_lowering.proofs.Follow.{Follows, follows_then, follows_last, at_once}
+use Rattle.hx_lowering.proofs.Setting.{Ground, is_active, Memory}
+use Rattle.hx_lowering.proofs.Stand.{Has, has_before, word_stands, has_expr, length-put, length-expr}
+use Rattle.hx_lowering.proofs.At.{layout_of, call_at, world_at, At, at_place, goes_to, loads_to, faults_to}
+use Rattle.hx_lowering.proofs.Names.{env_of, value_of, names_of, Around, int_is, array_is, word_of}
 
 -- what a version's code reads for a private word
 abbrev pub private_value : Option ℕ → List ℤ → List ℤ → ℕ → ℤ

@@ -12,9 +12,9 @@ use Rattle.hx_check.specs.declared.symbol.Symbol.TheVariants as symbol
 use Rattle.hx_check.specs.Symbols.{Scopes, private_word, symbols_of}
 use Rattle.hx_check.specs.Resolve.{word_named, words_named, int_word, array_words, or_else, no_words}
 use Rattle.hx_code.specs.Call.{at_index}
-use Rattle.hx_lower.proofs.Globals.{Layout, store_from, place_of, words_in, found, lies_in}
-use Rattle.hx_lower.proofs.At.{layout_of}
-use Rattle.hx_lower.proofs.Known.{Agree, agrees}
+use Rattle.hx_lowering.proofs.Globals.{Layout, store_from, place_of, words_in, found, lies_in}
+use Rattle.hx_lowering.proofs.At.{layout_of}
+use Rattle.hx_lowering.proofs.Known.{Agree, agrees}
 
 -- ---- scopes
 

@@ -18,18 +18,18 @@ use Rattle.hx_check.specs.Resolve.{resolve_expr, resolve_assignment, resolve_pla
 use Rattle.hx_code.specs.declared.word.Word.TheVariants.{Glob, SetGlob, Elem, SetElem, Dup, Binary}
 use Rattle.hx_code.specs.Code.{CodeView}
 use Rattle.hx_code.specs.Machine.{Machine}
-use Rattle.hx_lower.specs.declared.line.Line.{Line}
-use Rattle.hx_lower.specs.Lines.{Version, put, array_of, expr_lines, assignment_lines}
-use Rattle.hx_lower.specs.Serves.{serves_expr, serves_place, serves_assignment}
-use Rattle.hx_lower.proofs.Globals.{words_in}
-use Rattle.hx_lower.proofs.Follow.{Follows, follows_then, at_once}
-use Rattle.hx_lower.proofs.Setting.{Ground}
-use Rattle.hx_lower.proofs.Stand.{Has, has_before, has_expr}
-use Rattle.hx_lower.proofs.At.{layout_of, At}
-use Rattle.hx_lower.proofs.Names.{env_of, value_of, Around, int_is, array_is}
-use Rattle.hx_lower.proofs.Values.{Reads, Leaves, value_at, value_follows, variable_follows, read_by, word_goes, operator_follows, element_follows, or_left, or_right, and_left, and_right}
-use Rattle.hx_lower.proofs.Scene.{Scene, Fair, Stands, held, fixed_or}
-use Rattle.hx_lower.proofs.Writes.{element_written, word_written}
+use Rattle.hx_lowering.specs.declared.line.Line.{Line}
+use Rattle.hx_lowering.specs.Lines.{Version, put, array_of, expr_lines, assignment_lines}
+use Rattle.hx_lowering.specs.Serves.{serves_expr, serves_place, serves_assignment}
+use Rattle.hx_lowering.proofs.Globals.{words_in}
+use Rattle.hx_lowering.proofs.Follow.{Follows, follows_then, at_once}
+use Rattle.hx_lowering.proofs.Setting.{Ground}
+use Rattle.hx_lowering.proofs.Stand.{Has, has_before, has_expr}
+use Rattle.hx_lowering.proofs.At.{layout_of, At}
+use Rattle.hx_lowering.proofs.Names.{env_of, value_of, Around, int_is, array_is}
+use Rattle.hx_lowering.proofs.Values.{Reads, Leaves, value_at, value_follows, variable_follows, read_by, word_goes, operator_follows, element_follows, or_left, or_right, and_left, and_right}
+use Rattle.hx_lowering.proofs.Scene.{Scene, Fair, Stands, held, fixed_or}
+use Rattle.hx_lowering.proofs.Writes.{element_written, word_written}
 
 -- no word reads a private word that is fixed
 abbrev pub Free : Scene → (ℕ → Bool) → Type 0

@@ -17,13 +17,13 @@ use Rattle.hx_code.specs.declared.word.Ask.TheVariants as ask
 use Rattle.hx_code.specs.Code.{CodeView}
 use Rattle.hx_code.specs.Call.{or_fault as or_asks, CallView, Want, Asks, wants, at_index, fault_at}
 use Rattle.hx_code.specs.Machine.{Machine}
-use Rattle.hx_lower.specs.declared.line.Line.{Line}
-use Rattle.hx_lower.specs.Lines.{Version, put, array_of}
-use Rattle.hx_lower.proofs.Globals.{Layout, store_from, words_in, place_of, found, its_words, lies_in, written}
-use Rattle.hx_lower.proofs.Follow.{Follows}
-use Rattle.hx_lower.proofs.Setting.{Ground, is_active, Memory, with_store}
-use Rattle.hx_lower.proofs.Stand.{Has, word_stands, length-put}
-use Rattle.hx_lower.proofs.At.{layout_of, call_at, world_at, At, at_place, stores_to, faults_to}
+use Rattle.hx_lowering.specs.declared.line.Line.{Line}
+use Rattle.hx_lowering.specs.Lines.{Version, put, array_of}
+use Rattle.hx_lowering.proofs.Globals.{Layout, store_from, words_in, place_of, found, its_words, lies_in, written}
+use Rattle.hx_lowering.proofs.Follow.{Follows}
+use Rattle.hx_lowering.proofs.Setting.{Ground, is_active, Memory, with_store}
+use Rattle.hx_lowering.proofs.Stand.{Has, word_stands, length-put}
+use Rattle.hx_lowering.proofs.At.{layout_of, call_at, world_at, At, at_place, stores_to, faults_to}
 
 -- a word that isn't there isn't written
 not_written : (store : Map (List ℤ)) (x : List ℕ) (i v : ℤ) → with_word (words_of store x) i v ≡ None → set_word store x i v ≡ None

@@ -9,8 +9,8 @@ use Rattle.hx_code.specs.declared.word.Array.{Array}
 use Rattle.hx_code.specs.declared.word.Word.{Word}
 use Rattle.hx_code.specs.declared.word.Word.TheVariants.{Const, Priv, SetPriv, Glob, SetGlob, Elem, SetElem, Dup, Unary, Binary, Jump, JumpFalse, JumpTrue, Call}
 use Rattle.hx_code.specs.declared.table.Carried.{Carried}
-use Rattle.hx_lower.specs.declared.line.Line.{Line}
-use Rattle.hx_lower.specs.Size.{expr_size}
+use Rattle.hx_lowering.specs.declared.line.Line.{Line}
+use Rattle.hx_lowering.specs.Size.{expr_size}
 
 -- which version of a function's words is written: the function's number, how many words the globals have, the region that it
 -- is the version of, if any, and the private words that are carried in cells there

@@ -9,14 +9,14 @@ use Rattle.hx_check.specs.Symbols.{Scopes}
 use Rattle.hx_code.specs.declared.table.Carried.{Carried}
 use Rattle.hx_code.specs.Code.{CodeView}
 use Rattle.hx_code.specs.Machine.{Machine}
-use Rattle.hx_lower.specs.Lines.{Version, cell_of}
-use Rattle.hx_lower.specs.Draft.{Targets}
-use Rattle.hx_lower.proofs.Globals.{words_in}
-use Rattle.hx_lower.proofs.Follow.{Follows, Reaches, follows_then, follows_fewer, at_once}
-use Rattle.hx_lower.proofs.Setting.{Memory, Ground, is_active, Back}
-use Rattle.hx_lower.proofs.At.{layout_of, world_at, At, not_over}
-use Rattle.hx_lower.proofs.Names.{env_of}
-use Rattle.hx_lower.proofs.Values.{value_at}
+use Rattle.hx_lowering.specs.Lines.{Version, cell_of}
+use Rattle.hx_lowering.specs.Draft.{Targets}
+use Rattle.hx_lowering.proofs.Globals.{words_in}
+use Rattle.hx_lowering.proofs.Follow.{Follows, Reaches, follows_then, follows_fewer, at_once}
+use Rattle.hx_lowering.proofs.Setting.{Memory, Ground, is_active, Back}
+use Rattle.hx_lowering.proofs.At.{layout_of, world_at, At, not_over}
+use Rattle.hx_lowering.proofs.Names.{env_of}
+use Rattle.hx_lowering.proofs.Values.{value_at}
 
 -- where a statement stands: the calls around it, the version of its words, the private words that keep a value which no word
 -- reads, where `break` and `continue` go, how many private words its function has, whether a marked loop of it is around, and

@@ -9,9 +9,9 @@ use Rattle.hx_code.specs.declared.word.Word.{Word}
 use Rattle.hx_code.specs.declared.word.Word.TheVariants.{Const, Priv, SetPriv, Glob, SetGlob, Elem, SetElem, Dup, Unary, Binary, Jump, JumpFalse, JumpTrue, Call}
 use Rattle.hx_code.specs.declared.table.Spot.{Spot}
 use Rattle.hx_code.specs.Code.{CodeView}
-use Rattle.hx_lower.specs.declared.line.Line.{Line}
-use Rattle.hx_lower.specs.Size.{expr_size, exprs_size, assignment_size, simple_size, simples_size, test_size, step_size}
-use Rattle.hx_lower.specs.Lines.{Version, put, get_private, set_private, array_of, count, expr_lines, exprs_lines, assignment_lines, simple_lines, simples_lines, test_lines, step_lines}
+use Rattle.hx_lowering.specs.declared.line.Line.{Line}
+use Rattle.hx_lowering.specs.Size.{expr_size, exprs_size, assignment_size, simple_size, simples_size, test_size, step_size}
+use Rattle.hx_lowering.specs.Lines.{Version, put, get_private, set_private, array_of, count, expr_lines, exprs_lines, assignment_lines, simple_lines, simples_lines, test_lines, step_lines}
 
 abbrev pub words_of : List Line → List Word
 words_of lines = map (λ (line : Line). line.word) lines

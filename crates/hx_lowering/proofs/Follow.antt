@@ -6,7 +6,7 @@ use Rattle.hx_tree.specs.World.{World, Answer, Gives, Faults, Unfinished, Run, a
 use Rattle.hx_tree.specs.Meaning.{Ending, ending}
 use Rattle.hx_code.specs.Code.{CodeView}
 use Rattle.hx_code.specs.Machine.{Machine, machine_step, machine_after}
-use Rattle.hx_lower.specs.Correct.{Shows}
+use Rattle.hx_lowering.specs.Correct.{Shows}
 
 -- steps after steps
 after-sum : (code : CodeView) (j k : ℕ) (m : Machine) → machine_after code (k + j) m ≡ machine_after code k (machine_after code j m)

@@ -11,8 +11,8 @@ use Rattle.hx_check.specs.declared.resolved.Words.{Words}
 use Rattle.hx_check.specs.declared.symbol.Symbol.{Symbol}
 use Rattle.hx_check.specs.declared.symbol.Symbol.TheVariants as symbol
 use Rattle.hx_check.specs.Symbols.{symbol_at, global_symbols, items_symbols, symbols_of}
-use Rattle.hx_lower.proofs.Globals.{Layout, place_of}
-use Rattle.hx_lower.proofs.At.{layout_of}
+use Rattle.hx_lowering.proofs.Globals.{Layout, place_of}
+use Rattle.hx_lowering.proofs.At.{layout_of}
 
 -- a kind, a symbol and a place are those of one name
 abbrev pub Agree : Option Kind → Option Symbol → Option Words → Type 0

@@ -16,21 +16,21 @@ use Rattle.hx_code.specs.declared.word.Ask.TheVariants as ask
 use Rattle.hx_code.specs.Code.{CodeView}
 use Rattle.hx_code.specs.Call.{CallView, Asks, wants_of, wants_at}
 use Rattle.hx_code.specs.Machine.{Machine, machine_step}
-use Rattle.hx_lower.specs.Lines.{Version}
-use Rattle.hx_lower.specs.Size.{turn_size, test_size, stmt_size}
-use Rattle.hx_lower.specs.Draft.{Draft, Targets, with_lines, put_word, inside, targets, plain_draft, turns_draft, region_at, region_draft, loop_draft, stmt_draft}
-use Rattle.hx_lower.specs.Serves.{serves_test, serves_step}
-use Rattle.hx_lower.proofs.Globals.{words_in}
-use Rattle.hx_lower.proofs.Follow.{Follows, steps_to}
-use Rattle.hx_lower.proofs.Setting.{Ground, Outside, Inside, Opener, is_active, enters_plain, setting_of}
-use Rattle.hx_lower.proofs.Stand.{word_stands, length-put}
-use Rattle.hx_lower.proofs.At.{layout_of, call_at, At, at_place}
-use Rattle.hx_lower.proofs.Names.{env_of, Around}
-use Rattle.hx_lower.proofs.Scene.{Scene, Fair, Stands, Ends, held}
-use Rattle.hx_lower.proofs.Assigns.{Free}
-use Rattle.hx_lower.proofs.Drafts.{HasDraft, has_word, has_stmt, has_turns, has_plain, has_region, length-stmt, length-turns}
-use Rattle.hx_lower.proofs.Loops.{tested, within, clauses_of, plain_follows}
-use Rattle.hx_lower.proofs.Regions.{Flat, iteration_scene, outside_scene, entered, whole, region_opens, or_true}
+use Rattle.hx_lowering.specs.Lines.{Version}
+use Rattle.hx_lowering.specs.Size.{turn_size, test_size, stmt_size}
+use Rattle.hx_lowering.specs.Draft.{Draft, Targets, with_lines, put_word, inside, targets, plain_draft, turns_draft, region_at, region_draft, loop_draft, stmt_draft}
+use Rattle.hx_lowering.specs.Serves.{serves_test, serves_step}
+use Rattle.hx_lowering.proofs.Globals.{words_in}
+use Rattle.hx_lowering.proofs.Follow.{Follows, steps_to}
+use Rattle.hx_lowering.proofs.Setting.{Ground, Outside, Inside, Opener, is_active, enters_plain, setting_of}
+use Rattle.hx_lowering.proofs.Stand.{word_stands, length-put}
+use Rattle.hx_lowering.proofs.At.{layout_of, call_at, At, at_place}
+use Rattle.hx_lowering.proofs.Names.{env_of, Around}
+use Rattle.hx_lowering.proofs.Scene.{Scene, Fair, Stands, Ends, held}
+use Rattle.hx_lowering.proofs.Assigns.{Free}
+use Rattle.hx_lowering.proofs.Drafts.{HasDraft, has_word, has_stmt, has_turns, has_plain, has_region, length-stmt, length-turns}
+use Rattle.hx_lowering.proofs.Loops.{tested, within, clauses_of, plain_follows}
+use Rattle.hx_lowering.proofs.Regions.{Flat, iteration_scene, outside_scene, entered, whole, region_opens, or_true}
 
 or_false : (b : Bool) → (b || false) ≡ b
 or_false true = refl
