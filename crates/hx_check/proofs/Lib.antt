@@ -1,0 +1,14 @@
+mod Steps
+mod WhatIsNamed
+mod Expressions
+mod Assignments
+mod Statements
+mod Tables
+mod Nodes
+mod Distinct
+mod Functions
+mod Items
+mod Programs
+mod Calls
+mod Needs
+mod Filters
