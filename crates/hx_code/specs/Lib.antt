@@ -1,0 +1,11 @@
+pub mod Code
+pub mod Call
+pub mod Step
+pub mod Valid
+pub mod Local
+pub mod Fits
+pub mod Calls
+pub mod Region
+pub mod Machine
+pub mod Tests
+pub mod Rows
