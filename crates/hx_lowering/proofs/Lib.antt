@@ -13,3 +13,5 @@ pub mod Assigns
 pub mod Loops
 pub mod Regions
 pub mod Marked
+pub mod Flat
+pub mod Statements
