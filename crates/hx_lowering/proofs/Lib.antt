@@ -14,4 +14,5 @@ pub mod Loops
 pub mod Regions
 pub mod Marked
 pub mod Flat
+pub mod Functions
 pub mod Statements

@@ -75,6 +75,7 @@ module _ (p : Program) (code : CodeView) (words : code.globals ≡ words_in (lay
     to = to;
     privates = s.privates;
     is_marked = mk;
+    in_loop = true;
     context = c;
   }
 

@@ -76,9 +76,9 @@ module _ (p : Program) (code : CodeView) (words : code.globals ≡ words_in (lay
       → Follows code s.context.turns m (go_on exit rest env w) (PartsEnd s outer place')
   outer_ends s scope outer place GoesOn env w m rest place' ends k = k m ends
   outer_ends s scope outer place Breaks env w m rest place' ends k =
-      at_once code m (λ m'. Stands p code s outer s.to.break_to (leave_scope env) w m') (record { ps = ends.ps; cells = ends.cells; at = ends.at; env_is = ap leave_scope ends.env_is })
+      at_once code m (λ m'. EndsBy p code s outer place' Breaks (leave_scope env) w m') (ends.0, record { ps = ends.1.ps; cells = ends.1.cells; at = ends.1.at; env_is = ap leave_scope ends.1.env_is })
   outer_ends s scope outer place Continues env w m rest place' ends k =
-      at_once code m (λ m'. Stands p code s outer s.to.continue_to (leave_scope env) w m') (record { ps = ends.ps; cells = ends.cells; at = ends.at; env_is = ap leave_scope ends.env_is })
+      at_once code m (λ m'. EndsBy p code s outer place' Continues (leave_scope env) w m') (ends.0, record { ps = ends.1.ps; cells = ends.1.cells; at = ends.1.at; env_is = ap leave_scope ends.1.env_is })
   outer_ends s scope outer place (Returns v) env w m rest place' ends k = at_once code m (λ m'. Came p code s v w m') ends
 
   scope_in : (scopes : Scopes) (here : Surroundings) → Around p scopes here → Around p ([] ∷ scopes) (in_scope here)
@@ -167,8 +167,8 @@ module _ (p : Program) (code : CodeView) (words : code.globals ≡ words_in (lay
   leave_ends : (s : Scene) (scope : _) (outer : Scopes) (place : ℕ) (exit : Exit) (env : Environment) (w : World) (m : Machine)
       → EndsBy p code s (scope ∷ outer) place exit env w m → EndsBy p code s outer place exit (leave_scope env) w m
   leave_ends s scope outer place GoesOn env w m ends = record { ps = ends.ps; cells = ends.cells; at = ends.at; env_is = ap leave_scope ends.env_is }
-  leave_ends s scope outer place Breaks env w m ends = record { ps = ends.ps; cells = ends.cells; at = ends.at; env_is = ap leave_scope ends.env_is }
-  leave_ends s scope outer place Continues env w m ends = record { ps = ends.ps; cells = ends.cells; at = ends.at; env_is = ap leave_scope ends.env_is }
+  leave_ends s scope outer place Breaks env w m ends = (ends.0, record { ps = ends.1.ps; cells = ends.1.cells; at = ends.1.at; env_is = ap leave_scope ends.1.env_is })
+  leave_ends s scope outer place Continues env w m ends = (ends.0, record { ps = ends.1.ps; cells = ends.1.cells; at = ends.1.at; env_is = ap leave_scope ends.1.env_is })
   leave_ends s scope outer place (Returns v) env w m ends = ends
 
   -- what a `for` begins with
@@ -210,25 +210,25 @@ module _ (p : Program) (code : CodeView) (words : code.globals ≡ words_in (lay
   past_else s scopes n place to behind e stands m Unfinished r = r
 
   mutual
-    pub stmt_follows : (st : tree.Stmt) (s : Scene) → Fair p code s → (scopes : Scopes) (here : Surroundings) → Around p scopes here → Bare scopes → (k : ℕ) → AcceptsStmt st here
+    pub stmt_follows : (st : tree.Stmt) (s : Scene) → Fair p code s → (scopes : Scopes) (here : Surroundings) → Around p scopes here → (IsTrue here.in_loop → s.in_loop ≡ true) → Bare scopes → (k : ℕ) → AcceptsStmt st here
         → IsTrue (serves_stmt (resolve_stmt st (around_of p s) scopes k)) → Free s (λ j. stmt_reads j (resolve_stmt st (around_of p s) scopes k))
         → (d : Draft) → HasDraft code (stmt_draft (resolve_stmt st (around_of p s) scopes k) s.version s.to d)
         → (ps cells : List ℤ) (w : World) (m : Machine) → At p code s.ground (length d.lines) ps [] cells w m
         → Follows code s.context.turns m (effect st s.context (env_of scopes (held s ps cells)) w) (Ends p code s scopes (length (stmt_draft (resolve_stmt st (around_of p s) scopes k) s.version s.to d).lines))
-    stmt_follows (tree.Block parts) s fair scopes here around bare k ok served free d has ps cells w m at =
+    stmt_follows (tree.Block parts) s fair scopes here around loops bare k ok served free d has ps cells w m at =
         follows_then code s.context.turns m (effects parts s.context (enter_scope (env_of scopes (held s ps cells))) w) (λ out. gives (out.0, leave_scope out.1)) (PartsEnd s scopes _) (Ends p code s scopes _)
-        (parts_follow parts s fair [] scopes (in_scope here) (scope_in scopes here around) (refl, bare) k ok served free d has ps cells w m at)
+        (parts_follow parts s fair [] scopes (in_scope here) (scope_in scopes here around) loops (refl, bare) k ok served free d has ps cells w m at)
         (λ out w' m' ends. at_once code m' (λ x. PartsEnd s scopes _ out w' x) ends)
-    stmt_follows tree.Empty s fair scopes here around bare k ok served free d has ps cells w m at = goes_on_here s scopes s.context.turns (length d.lines) ps cells w m at
-    stmt_follows (tree.Assign a) s fair scopes here around bare k ok served free d has ps cells w m at =
+    stmt_follows tree.Empty s fair scopes here around loops bare k ok served free d has ps cells w m at = goes_on_here s scopes s.context.turns (length d.lines) ps cells w m at
+    stmt_follows (tree.Assign a) s fair scopes here around loops bare k ok served free d has ps cells w m at =
         let done = assignment_lines (resolve_assignment a (symbols_of p) scopes) s.version d.lines in
         follows_then code s.context.turns m (assign a (call_in s.context) (env_of scopes (held s ps cells)) w) (λ env'. goes_on env') (λ env' w' m'. Stands p code s scopes (length done) env' w' m') (Ends p code s scopes (length done))
         (assign_follows p code words s fair scopes here around (call_in s.context) a ok served free s.context.turns ps cells d.lines has.lines w m at)
         (λ env' w' m' stands. at_once code m' (λ x. Stands p code s scopes (length done) env' w' x) stands)
-    stmt_follows (tree.CallStatement f es) s fair scopes here around bare k ok served free d has ps cells w m at = absurd cc
-    stmt_follows (tree.Print place e) s fair scopes here around bare k ok served free d has ps cells w m at = prints s fair scopes here around e ok served free place d.lines has.lines ps cells w m at
-    stmt_follows (tree.Emit place e) s fair scopes here around bare k ok served free d has ps cells w m at = emits s fair scopes here around e ok served free place d.lines has.lines ps cells w m at
-    stmt_follows (tree.If test st) s fair scopes here around bare k ok served free d has ps cells w m at =
+    stmt_follows (tree.CallStatement f es) s fair scopes here around loops bare k ok served free d has ps cells w m at = absurd cc
+    stmt_follows (tree.Print place e) s fair scopes here around loops bare k ok served free d has ps cells w m at = prints s fair scopes here around e ok served free place d.lines has.lines ps cells w m at
+    stmt_follows (tree.Emit place e) s fair scopes here around loops bare k ok served free d has ps cells w m at = emits s fair scopes here around e ok served free place d.lines has.lines ps cells w m at
+    stmt_follows (tree.If test st) s fair scopes here around loops bare k ok served free d has ps cells w m at =
         let rt = resolve_expr test (symbols_of p) scopes in
         let rs = resolve_stmt st (around_of p s) scopes k in
         let v = s.version in
@@ -245,8 +245,8 @@ module _ (p : Program) (code : CodeView) (words : code.globals ≡ words_in (lay
         (value_here p code words s fair scopes here around (call_in s.context) test ok.0 (and_left (serves_expr rt) (serves_stmt rs) served) (free_left s (λ j. expr_reads j rt) (λ j. stmt_reads j rs) free) n 0 ps [] cells d.lines (has_before code v 1 (JumpFalse behind) a has1.lines) w m at)
         (λ x w' m' at'. jump_follows p code s.ground v words fair.globals fair.carries n 1 behind x ps [] cells w' m' a (goes_on env) (effect st s.context env) Done has1.lines at'
         (λ m'' at''. goes_on_here s scopes n (length done.lines) ps cells w' m'' (at_place p code s.ground behind (length done.lines) ps [] cells w' m'' at_end at''))
-        (λ m'' at''. stmt_follows st s fair scopes here around bare k ok.1 (and_right (serves_expr rt) (serves_stmt rs) served) (free_right s (λ j. expr_reads j rt) (λ j. stmt_reads j rs) free) d1 has ps cells w' m'' at''))
-    stmt_follows (tree.IfElse test st other) s fair scopes here around bare k ok served free d has ps cells w m at =
+        (λ m'' at''. stmt_follows st s fair scopes here around loops bare k ok.1 (and_right (serves_expr rt) (serves_stmt rs) served) (free_right s (λ j. expr_reads j rt) (λ j. stmt_reads j rs) free) d1 has ps cells w' m'' at''))
+    stmt_follows (tree.IfElse test st other) s fair scopes here around loops bare k ok served free d has ps cells w m at =
         let rt = resolve_expr test (symbols_of p) scopes in
         let rs = resolve_stmt st (around_of p s) scopes k in
         let ro = resolve_stmt other (around_of p s) scopes (k + stmt_locals st) in
@@ -272,11 +272,11 @@ module _ (p : Program) (code : CodeView) (words : code.globals ≡ words_in (lay
         follows_then code n m (value test (call_in s.context) env w) (λ x. if is_zero x then effect other s.context env else effect st s.context env) (Leaves p code s.ground v words fair.globals fair.carries a ps [] cells) Done
         (value_here p code words s fair scopes here around (call_in s.context) test ok.0 (and_left (serves_expr rt) (serves_stmt rs && serves_stmt ro) served) (free_left s (λ j. expr_reads j rt) (λ j. stmt_reads j rs) free_first) n 0 ps [] cells d.lines (has_before code v 1 (JumpFalse other_at) a has1.lines) w m at)
         (λ x w' m' at'. jump_follows p code s.ground v words fair.globals fair.carries n 1 other_at x ps [] cells w' m' a (effect other s.context env) (effect st s.context env) Done has1.lines at'
-        (λ m'' at''. stmt_follows other s fair scopes here around bare (k + stmt_locals st) ok.2 (and_right (serves_stmt rs) (serves_stmt ro) served_rest) (free_right s (λ j. expr_reads j rt || stmt_reads j rs) reads_rest free) d3 has ps cells w' m''
+        (λ m'' at''. stmt_follows other s fair scopes here around loops bare (k + stmt_locals st) ok.2 (and_right (serves_stmt rs) (serves_stmt ro) served_rest) (free_right s (λ j. expr_reads j rt || stmt_reads j rs) reads_rest free) d3 has ps cells w' m''
           (at_place p code s.ground other_at (length d3.lines) ps [] cells w' m'' at_other at''))
         (λ m'' at''. past_else s scopes n (length d2.lines) behind (length done.lines) at_end (word_stands code v 0 (Jump behind) d2.lines has3.lines) m'' (effect st s.context env w')
-          (stmt_follows st s fair scopes here around bare k ok.1 (and_left (serves_stmt rs) (serves_stmt ro) served_rest) (free_right s (λ j. expr_reads j rt) (λ j. stmt_reads j rs) free_first) d1 has2 ps cells w' m'' at'')))
-    stmt_follows (tree.While marked test st) s fair scopes here around bare k ok served free d has ps cells w m at =
+          (stmt_follows st s fair scopes here around loops bare k ok.1 (and_left (serves_stmt rs) (serves_stmt ro) served_rest) (free_right s (λ j. expr_reads j rt) (λ j. stmt_reads j rs) free_first) d1 has2 ps cells w' m'' at'')))
+    stmt_follows (tree.While marked test st) s fair scopes here around loops bare k ok served free d has ps cells w m at =
         let rt = resolve_expr test (symbols_of p) scopes in
         let rs = resolve_stmt st (resolve.inside marked (around_of p s)) scopes k in
         let cs = clauses_of p code words scopes [] (Some test) None in
@@ -287,11 +287,11 @@ module _ (p : Program) (code : CodeView) (words : code.globals ≡ words_in (lay
         (free_left s (λ j. expr_reads j rt) (λ j. false) free_clauses) (λ j e. absurd cc) fair
         (λ e v to d'. subst (λ b. (stmt_draft (resolve_stmt st (record { symbols = symbols_of p; privates = s.privates; is_marked = b }) scopes k) v to d').regions ≡ d'.regions) (sym (or_right s.is_marked marked e)) (flat_stmt st (symbols_of p) s.privates scopes k v to d'))
         (bare_env scopes bare)
-        (λ d' fair' ps' cells' w' m' at' has'. stmt_follows st _ fair' scopes (inside_loop here) (loop_in scopes here around) bare k ok.1 served_st (free_right s (λ j. clauses_read j cs) (λ j. stmt_reads j rs) free) _ has' ps' cells' w' m' at')
+        (λ d' fair' ps' cells' w' m' at' has'. stmt_follows st _ fair' scopes (inside_loop here) (loop_in scopes here around) (λ e''. refl) bare k ok.1 served_st (free_right s (λ j. clauses_read j cs) (λ j. stmt_reads j rs) free) _ has' ps' cells' w' m' at')
         (s.is_marked || marked)
-        (λ e e' d' o number fair' ps' cells' w' m' at' has'. stmt_follows st _ fair' scopes (inside_loop here) (loop_in scopes here around) bare k ok.1 served_st (λ j e. refl) _ has' ps' cells' w' m' at')
+        (λ e e' d' o number fair' ps' cells' w' m' at' has'. stmt_follows st _ fair' scopes (inside_loop here) (loop_in scopes here around) (λ e''. refl) bare k ok.1 served_st (λ j e. refl) _ has' ps' cells' w' m' at')
         d has ps cells w m at
-    stmt_follows (tree.For marked h st) s fair scopes here around bare k ok served free d has ps cells w m at =
+    stmt_follows (tree.For marked h st) s fair scopes here around loops bare k ok served free d has ps cells w m at =
         let v = s.version in
         let n = s.context.turns in
         let sc1 = words_after_init h.init ([] ∷ scopes) k in
@@ -323,37 +323,37 @@ module _ (p : Program) (code : CodeView) (words : code.globals ≡ words_in (lay
         (free_right s (λ j. any_of (simple_reads j) init || if_any (expr_reads j) cs.test) (λ j. if_any (assignment_reads j) cs.step) free_clauses) fair
         (λ e v' to d'. subst (λ b'. (stmt_draft (resolve_stmt st (record { symbols = symbols_of p; privates = s.privates; is_marked = b' }) sc1 (k + init_locals h.init)) v' to d').regions ≡ d'.regions) (sym (or_right s.is_marked marked e)) (flat_stmt st (symbols_of p) s.privates sc1 (k + init_locals h.init) v' to d'))
         (bare_env sc1 bare1)
-        (λ d' fair' ps' cells' w'' m'' at' has'. stmt_follows st _ fair' sc1 (inside_loop here1) (loop_in sc1 here1 b.0) bare1 (k + init_locals h.init) ok.3 (and_right (serves_clauses cs) (serves_stmt rs) served) (free_right s (λ j. clauses_read j cs) (λ j. stmt_reads j rs) free) _ has' ps' cells' w'' m'' at')
+        (λ d' fair' ps' cells' w'' m'' at' has'. stmt_follows st _ fair' sc1 (inside_loop here1) (loop_in sc1 here1 b.0) (λ e''. refl) bare1 (k + init_locals h.init) ok.3 (and_right (serves_clauses cs) (serves_stmt rs) served) (free_right s (λ j. clauses_read j cs) (λ j. stmt_reads j rs) free) _ has' ps' cells' w'' m'' at')
         (s.is_marked || marked)
-        (λ e e' d' o number fair' ps' cells' w'' m'' at' has'. stmt_follows st _ fair' sc1 (inside_loop here1) (loop_in sc1 here1 b.0) bare1 (k + init_locals h.init) ok.3 (and_right (serves_clauses cs) (serves_stmt rs) served) (λ j e''. refl) _ has' ps' cells' w'' m'' at')
+        (λ e e' d' o number fair' ps' cells' w'' m'' at' has'. stmt_follows st _ fair' sc1 (inside_loop here1) (loop_in sc1 here1 b.0) (λ e''. refl) bare1 (k + init_locals h.init) ok.3 (and_right (serves_clauses cs) (serves_stmt rs) served) (λ j e''. refl) _ has' ps' cells' w'' m'' at')
         d0 has stands.ps stands.cells w' m' stands.at)
         (λ out w'' m'' ends. at_once code m'' (λ x. EndsBy p code s scopes (length done.lines) out.0 (leave_scope out.1) w'' x)
         (leave_ends s [] scopes (length done.lines) out.0 out.1 w'' m'' (subst (λ sc. EndsBy p code s sc (length done.lines) out.0 out.1 w'' m'') b.1 ends)))))
-    stmt_follows (tree.Break place) s fair scopes here around bare k ok served free d has ps cells w m at =
-        jumps s scopes s.context.turns s.to.break_to d has ps cells w m at Breaks (length (put s.version 0 (Jump s.to.break_to) d.lines)) (λ m' stands. stands)
-    stmt_follows (tree.Continue place) s fair scopes here around bare k ok served free d has ps cells w m at =
-        jumps s scopes s.context.turns s.to.continue_to d has ps cells w m at Continues (length (put s.version 0 (Jump s.to.continue_to) d.lines)) (λ m' stands. stands)
-    stmt_follows (tree.Return place e) s fair scopes here around bare k ok served free d has ps cells w m at =
+    stmt_follows (tree.Break place) s fair scopes here around loops bare k ok served free d has ps cells w m at =
+        jumps s scopes s.context.turns s.to.break_to d has ps cells w m at Breaks (length (put s.version 0 (Jump s.to.break_to) d.lines)) (λ m' stands. (loops ok, stands))
+    stmt_follows (tree.Continue place) s fair scopes here around loops bare k ok served free d has ps cells w m at =
+        jumps s scopes s.context.turns s.to.continue_to d has ps cells w m at Continues (length (put s.version 0 (Jump s.to.continue_to) d.lines)) (λ m' stands. (loops ok, stands))
+    stmt_follows (tree.Return place e) s fair scopes here around loops bare k ok served free d has ps cells w m at =
         return_value s fair scopes here around e ok served free d.lines has.lines ps cells w m _ at
 
-    pub parts_follow : (parts : tree.Parts) (s : Scene) → Fair p code s → (scope : _) (outer : Scopes) (here : Surroundings) → Around p (scope ∷ outer) here → Bare (scope ∷ outer) → (k : ℕ) → AcceptsParts parts here
+    pub parts_follow : (parts : tree.Parts) (s : Scene) → Fair p code s → (scope : _) (outer : Scopes) (here : Surroundings) → Around p (scope ∷ outer) here → (IsTrue here.in_loop → s.in_loop ≡ true) → Bare (scope ∷ outer) → (k : ℕ) → AcceptsParts parts here
         → IsTrue (serves_stmts (resolve_parts parts (around_of p s) (scope ∷ outer) k)) → Free s (λ j. stmts_read j (resolve_parts parts (around_of p s) (scope ∷ outer) k))
         → (d : Draft) → HasDraft code (stmts_draft (resolve_parts parts (around_of p s) (scope ∷ outer) k) s.version s.to d)
         → (ps cells : List ℤ) (w : World) (m : Machine) → At p code s.ground (length d.lines) ps [] cells w m
         → Follows code s.context.turns m (effects parts s.context (env_of (scope ∷ outer) (held s ps cells)) w) (PartsEnd s outer (length (stmts_draft (resolve_parts parts (around_of p s) (scope ∷ outer) k) s.version s.to d).lines))
-    parts_follow tree.no_parts s fair scope outer here around bare k ok served free d has ps cells w m at =
+    parts_follow tree.no_parts s fair scope outer here around loops bare k ok served free d has ps cells w m at =
         at_once code m (λ m'. Stands p code s outer (length d.lines) (env_of outer (held s ps cells)) w m') (record { ps = ps; cells = cells; at = at; env_is = refl })
-    parts_follow (tree.part_and (tree.Locals []) parts) s fair scope outer here around bare k ok served free d has ps cells w m at =
-        parts_follow parts s fair scope outer here around bare (k + 0) ok.1 served free d has ps cells w m at
-    parts_follow (tree.part_and (tree.Locals (l ∷ ls)) parts) s fair scope outer here around bare k ok served free d has ps cells w m at = absurd cc
-    parts_follow (tree.part_and (tree.Statement st) parts) s fair scope outer here around bare k ok served free d has ps cells w m at =
+    parts_follow (tree.part_and (tree.Locals []) parts) s fair scope outer here around loops bare k ok served free d has ps cells w m at =
+        parts_follow parts s fair scope outer here around loops bare (k + 0) ok.1 served free d has ps cells w m at
+    parts_follow (tree.part_and (tree.Locals (l ∷ ls)) parts) s fair scope outer here around loops bare k ok served free d has ps cells w m at = absurd cc
+    parts_follow (tree.part_and (tree.Statement st) parts) s fair scope outer here around loops bare k ok served free d has ps cells w m at =
         let rs = resolve_stmt st (around_of p s) (scope ∷ outer) k in
         let rest = resolve_parts parts (around_of p s) (scope ∷ outer) (k + stmt_locals st) in
         let d1 = stmt_draft rs s.version s.to d in
         let done = stmts_draft rest s.version s.to d1 in
         let env = env_of (scope ∷ outer) (held s ps cells) in
         follows_then code s.context.turns m (effect st s.context env w) (λ out. go_on out.0 (effects parts s.context) out.1) (Ends p code s (scope ∷ outer) (length d1.lines)) (PartsEnd s outer (length done.lines))
-        (stmt_follows st s fair (scope ∷ outer) here around bare k ok.0 (and_left (serves_stmt rs) (serves_stmts rest) served) (free_left s (λ j. stmt_reads j rs) (λ j. stmts_read j rest) free) d (has_stmts code rest s.version s.to d1 has) ps cells w m at)
+        (stmt_follows st s fair (scope ∷ outer) here around loops bare k ok.0 (and_left (serves_stmt rs) (serves_stmts rest) served) (free_left s (λ j. stmt_reads j rs) (λ j. stmts_read j rest) free) d (has_stmts code rest s.version s.to d1 has) ps cells w m at)
         (λ out w' m' ends. outer_ends s scope outer (length d1.lines) out.0 out.1 w' m' (effects parts s.context) (length done.lines) ends
         (λ m'' stands. subst (λ env'. Follows code s.context.turns m'' (effects parts s.context env' w') (PartsEnd s outer (length done.lines))) (sym stands.env_is)
-        (parts_follow parts s fair scope outer here around bare (k + stmt_locals st) ok.1 (and_right (serves_stmt rs) (serves_stmts rest) served) (free_right s (λ j. stmt_reads j rs) (λ j. stmts_read j rest) free) d1 has stands.ps stands.cells w' m'' stands.at)))
+        (parts_follow parts s fair scope outer here around loops bare (k + stmt_locals st) ok.1 (and_right (serves_stmt rs) (serves_stmts rest) served) (free_right s (λ j. stmt_reads j rs) (λ j. stmts_read j rest) free) d1 has stands.ps stands.cells w' m'' stands.at)))
