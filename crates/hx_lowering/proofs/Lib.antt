@@ -15,4 +15,5 @@ pub mod Regions
 pub mod Marked
 pub mod Flat
 pub mod Functions
+pub mod Placed
 pub mod Statements
