@@ -16,4 +16,5 @@ pub mod Marked
 pub mod Flat
 pub mod Functions
 pub mod Placed
+pub mod Opening
 pub mod Statements

@@ -18,16 +18,16 @@ use Rattle.hx_code.specs.Machine as code
 use Rattle.hx_lowering.specs.Lines.{array_of}
 use Rattle.hx_lowering.proofs.Globals.{Layout, store_from, words_in}
 
-abbrev gname : GlobalDecl → List ℕ
+abbrev pub gname : GlobalDecl → List ℕ
 gname g = g.name.text
 
-abbrev entry : GlobalDecl → List ℕ × ℕ
+abbrev pub entry : GlobalDecl → List ℕ × ℕ
 entry g = (g.name.text, shape_words g.shape)
 
-abbrev kind_entry : GlobalDecl → List ℕ × Kind
+abbrev pub kind_entry : GlobalDecl → List ℕ × Kind
 kind_entry g = (g.name.text, kind_of_shape g.shape)
 
-abbrev firsts : Map Kind → List (List ℕ)
+abbrev pub firsts : Map Kind → List (List ℕ)
 firsts ks = map (λ e. e.0) ks
 
 -- ---- the globals' names are distinct, where all names are
@@ -66,7 +66,7 @@ behind_globals : (gs : List GlobalDecl) (ks : Map Kind) → IsDistinct (firsts (
 behind_globals [] ks h = h
 behind_globals (g ∷ gs) ks h = behind_globals gs ks h.1
 
-same_text : (x y : List ℕ) → bytes_eq x y ≡ true → x ≡ y
+pub same_text : (x y : List ℕ) → bytes_eq x y ≡ true → x ≡ y
 same_text x y e = (bytes_eq-Decides x y).0 e
 
 -- ---- the first global of a name, and its symbol
@@ -137,7 +137,7 @@ laid (g ∷ gs) b fits before behind a e =
     ∙ ap (λ m. (g.name.text, b g) ∷ m) further
 
 -- other words for the globals of a name
-abbrev replaced : List ℕ → (GlobalDecl → List ℤ) → (GlobalDecl → List ℤ) → GlobalDecl → List ℤ
+abbrev pub replaced : List ℕ → (GlobalDecl → List ℤ) → (GlobalDecl → List ℤ) → GlobalDecl → List ℤ
 replaced x h b g = if bytes_eq g.name.text x then h g else b g
 
 none_replaced : (x : List ℕ) (h b : GlobalDecl → List ℤ) (gs : List GlobalDecl) → is_among x (map gname gs) ≡ false → flat_map (replaced x h b) gs ≡ flat_map b gs
@@ -149,7 +149,7 @@ none_replaced x h b (g ∷ gs) e = go (none_replaced x h b gs) (bytes_eq g.name.
     go more true e = absurd cc
     go more false e = ap (λ l. b g ++ l) (more e)
 
-none_counted : (x : List ℕ) (size : GlobalDecl → ℕ) (gs : List GlobalDecl) → is_among x (map gname gs) ≡ false → sum_by (λ g. if bytes_eq g.name.text x then size g else 0) gs ≡ 0
+pub none_counted : (x : List ℕ) (size : GlobalDecl → ℕ) (gs : List GlobalDecl) → is_among x (map gname gs) ≡ false → sum_by (λ g. if bytes_eq g.name.text x then size g else 0) gs ≡ 0
 none_counted x size [] e = refl
 none_counted x size (g ∷ gs) e = sum_by-cons (λ g. if bytes_eq g.name.text x then size g else 0) g gs ∙ go (none_counted x size gs) (bytes_eq g.name.text x) e
   where
@@ -160,18 +160,18 @@ none_counted x size (g ∷ gs) e = sum_by-cons (λ g. if bytes_eq g.name.text x 
 
 -- ---- the input fills its array
 
-abbrev told_array : Shape → ℕ → Option Words
+abbrev pub told_array : Shape → ℕ → Option Words
 told_array (Scalar c) a = None
 told_array (Array n cs) a = Some (record { base = a; length = n })
 
-abbrev opening : GlobalDecl → List ℤ
+abbrev pub opening : GlobalDecl → List ℤ
 opening g = opening_words g.shape
 
-abbrev first_array : List ℕ → List GlobalDecl → ℕ → Option Words
+abbrev pub first_array : List ℕ → List GlobalDecl → ℕ → Option Words
 first_array x [] a = None
 first_array x (g ∷ gs) a = if bytes_eq g.name.text x then told_array g.shape a else first_array x gs (a + shape_words g.shape)
 
-fills : (input : List ℤ) (x : List ℕ) (gs : List GlobalDecl) (before : List ℤ) → IsDistinct (map gname gs) → Fits opening gs → length input ≤ sum_by (λ g. if bytes_eq g.name.text x then array_words g.shape else 0) gs
+pub fills : (input : List ℤ) (x : List ℕ) (gs : List GlobalDecl) (before : List ℤ) → IsDistinct (map gname gs) → Fits opening gs → length input ≤ sum_by (λ g. if bytes_eq g.name.text x then array_words g.shape else 0) gs
     → before ++ flat_map (replaced x (λ g. filled input g.shape) opening) gs ≡ code.filled (option_map array_of (first_array x gs (length before))) input (before ++ flat_map opening gs)
 fills input x [] before d f room = refl
 fills input x (g ∷ gs) before d f room =
@@ -214,15 +214,15 @@ fills input x (g ∷ gs) before d f room =
 
 -- ---- the input's length in its word
 
-abbrev told_int : Shape → ℕ → Option ℕ
+abbrev pub told_int : Shape → ℕ → Option ℕ
 told_int (Scalar c) a = Some a
 told_int (Array n cs) a = None
 
-abbrev first_int : List ℕ → List GlobalDecl → ℕ → Option ℕ
+abbrev pub first_int : List ℕ → List GlobalDecl → ℕ → Option ℕ
 first_int x [] a = None
 first_int x (g ∷ gs) a = if bytes_eq g.name.text x then told_int g.shape a else first_int x gs (a + shape_words g.shape)
 
-counts : (input : List ℤ) (x : List ℕ) (b : GlobalDecl → List ℤ) (gs : List GlobalDecl) (before : List ℤ) → IsDistinct (map gname gs) → Fits b gs
+pub counts : (input : List ℤ) (x : List ℕ) (b : GlobalDecl → List ℤ) (gs : List GlobalDecl) (before : List ℤ) → IsDistinct (map gname gs) → Fits b gs
     → ((g : GlobalDecl) → bytes_eq g.name.text x ≡ true → b g ≡ opening_words g.shape)
     → before ++ flat_map (replaced x (λ g. counted input g.shape) b) gs ≡ code.counted (first_int x gs (length before)) input (before ++ flat_map b gs)
 counts input x b [] before d f same = refl
