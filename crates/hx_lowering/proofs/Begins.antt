@@ -62,7 +62,7 @@ with_count input = replaced (codes "n_in") (λ g. counted input g.shape) (with_i
 not_both : (x : List ℕ) → bytes_eq x (codes "in") ≡ true → bytes_eq x (codes "n_in") ≡ true → ⊥
 not_both x e f =
     let same : codes "in" ≡ codes "n_in" = sym (same_text x (codes "in") e) ∙ same_text x (codes "n_in") f in
-    let n : 2 ≡ 4 = ap length same in omega arith
+    let n : 2 ≡ 4 = ap (λ (l : List ℕ). length l) same in absurd (omega (arith, n))
 
 begins_so : (input : List ℤ) (g : GlobalDecl) → words_at_start input g.name.text g.shape ≡ with_count input g
 begins_so input g = go (bytes_eq g.name.text (codes "in")) (bytes_eq g.name.text (codes "n_in")) refl refl
@@ -141,9 +141,9 @@ int_first : (x : List ℕ) (gs : List GlobalDecl) (a : ℕ) → first_by ℕ tol
 int_first x [] a = refl
 int_first x (g ∷ gs) a = ap (λ o. if bytes_eq g.name.text x then told_int g.shape a else o) (int_first x gs (a + shape_words g.shape))
 
-map_same : (f g : GlobalDecl → List ℤ) (gs : List GlobalDecl) → ((d : GlobalDecl) → f d ≡ g d) → map (λ d. (d.name.text, f d)) gs ≡ map (λ d. (d.name.text, g d)) gs
+map_same : (f g : GlobalDecl → List ℤ) (gs : List GlobalDecl) → ((d : GlobalDecl) → f d ≡ g d) → map {B = List ℕ × List ℤ} (λ d. (d.name.text, f d)) gs ≡ map {B = List ℕ × List ℤ} (λ d. (d.name.text, g d)) gs
 map_same f g [] h = refl
-map_same f g (d ∷ gs) h = ap (λ ws. (d.name.text, ws) ∷ map (λ d. (d.name.text, f d)) gs) (h d) ∙ ap (λ rest. (d.name.text, g d) ∷ rest) (map_same f g gs h)
+map_same f g (d ∷ gs) h = ap (λ ws. (d.name.text, ws) ∷ map {B = List ℕ × List ℤ} (λ d. (d.name.text, f d)) gs) (h d) ∙ ap (λ rest. (d.name.text, g d) ∷ rest) (map_same f g gs h)
 
 -- ---- the whole
 

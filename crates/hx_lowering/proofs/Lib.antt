@@ -17,4 +17,8 @@ pub mod Flat
 pub mod Functions
 pub mod Placed
 pub mod Opening
+pub mod Begins
+pub mod Programs
+pub mod Locals
+pub mod Cells
 pub mod Statements
