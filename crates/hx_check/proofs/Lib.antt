@@ -1,0 +1,5 @@
+mod Steps
+mod WhatIsNamed
+mod Expressions
+mod Assignments
+mod Statements
