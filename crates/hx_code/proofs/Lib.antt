@@ -1,0 +1,5 @@
+pub mod Tops
+pub mod Fits
+pub mod Rooms
+pub mod Arguments
+pub mod Numbers

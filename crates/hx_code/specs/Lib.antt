@@ -1,0 +1,9 @@
+pub mod Code
+pub mod Call
+pub mod Step
+pub mod Valid
+pub mod Local
+pub mod Fits
+pub mod Region
+pub mod Machine
+pub mod Rows
