@@ -1,0 +1,6 @@
+pub mod Globals
+pub mod Follow
+pub mod Setting
+pub mod Stand
+pub mod At
+pub mod Known

@@ -1,0 +1,4 @@
+pub mod Size
+pub mod Lines
+pub mod Draft
+pub mod Correct
