@@ -4,3 +4,4 @@ pub mod Setting
 pub mod Stand
 pub mod At
 pub mod Known
+pub mod Names
