@@ -1,7 +1,7 @@
 // The words of a program so far, and which version of a function's words is written.
 
-ghost use Rattle.std.specs.Prelude.{◌≡◌, ◌+◌, ◌<◌, ◌≤◌, ◌^◌, IfOk, OnOk, Some, length};
-ghost use Rattle.hx_lowering.specs.Draft.{with_lines, plain_version};
+ghost use Rattle.std.specs.Prelude.{◌≡◌, ◌+◌, ◌<◌, ◌≤◌, ◌^◌, IfOk, OnOk, Some, [], ◌∷◌, ◌++◌, length};
+ghost use Rattle.hx_lowering.specs.Draft.{with_lines, plain_version, cells_from};
 ghost use Rattle.hx_lowering.specs.Lines as lines;
 
 use crate::error::LowerError;
@@ -145,6 +145,64 @@ impl Drafted {
         self.lines.push(Line { word, spot })?;
         Ok(())
     }
+
+    /// How many regions there are: the number of the next.
+    pub fn region_count(&self) -> Result<u32, LowerError>
+        ensures { IfOk result (λ n. n ≡ length self.now.regions) }
+    {
+        numbered(self.regions.len())
+    }
+
+    /// How many functions there are: the number of the next.
+    pub fn function_count(&self) -> Result<u32, LowerError>
+        ensures { IfOk result (λ n. n ≡ length self.now.functions) }
+    {
+        numbered(self.functions.len())
+    }
+
+    /// Puts a region behind the others.
+    pub fn put_region(&mut self, region: Region) -> Result<(), LowerError>
+        ensures { OnOk result (self.new ≡ record self.old { regions = self.old.regions ++ region ∷ [] }) }
+    {
+        self.regions.push(region)?;
+        Ok(())
+    }
+
+    /// Puts a function behind the others.
+    pub fn put_function(&mut self, function: Func) -> Result<(), LowerError>
+        ensures { OnOk result (self.new ≡ record self.old { functions = self.old.functions ++ function ∷ [] }) }
+    {
+        self.functions.push(function)?;
+        Ok(())
+    }
+}
+
+fn numbered(count: usize) -> Result<u32, LowerError>
+    ensures { IfOk result (λ n. n ≡ count) }
+{
+    match u32::try_from(count) {
+        Ok(number) => Ok(number),
+        Err(_) => Err(LowerError::Memory),
+    }
+}
+
+/// Private words and the cells that carry them, numbered from 0.
+pub fn cells_of(alloc: Global, carried: &[u32]) -> Result<Vec<Carried>, LowerError>
+    ensures { IfOk result (λ cells. cells.items ≡ cells_from carried.now 0) }
+{
+    let mut cells = Vec::new(alloc);
+    let mut cell = 0u32;
+    for private in carried {
+        cells.push(Carried {
+            private: *private,
+            cell,
+        })?;
+        let Some(next) = cell.checked_add(1) else {
+            return Err(LowerError::Memory);
+        };
+        cell = next;
+    }
+    Ok(cells)
 }
 
 /// The cell of a private word that is carried.

@@ -1,7 +1,10 @@
 //! Lowering: the words of a checked program.
 #![tactic(auto)]
 
+mod assignment;
 mod draft;
 mod error;
 mod expression;
 mod size;
+mod statement;
+mod target;
