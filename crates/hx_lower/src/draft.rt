@@ -1,6 +1,6 @@
 // The words of a program so far, and which version of a function's words is written.
 
-ghost use Rattle.std.specs.Prelude.{◌≡◌, ◌+◌, ◌<◌, ◌≤◌, ◌^◌, IfOk, OnOk, Some, [], ◌∷◌, ◌++◌, length};
+ghost use Rattle.std.specs.Prelude.{◌≡◌, ◌+◌, ◌<◌, ◌≤◌, ◌^◌, IfOk, OnOk, Some, [], ◌∷◌, ◌++◌, length, map};
 ghost use Rattle.hx_lowering.specs.Draft.{with_lines, plain_version, cells_from};
 ghost use Rattle.hx_lowering.specs.Lines as lines;
 
@@ -9,7 +9,7 @@ use hx_check::resolved::Words;
 use hx_code::table::{Carried, Func, Region, Spot};
 use hx_code::word::{Array, Word};
 use hx_lowering::line::Line;
-use std::alloc::Global;
+use std::alloc::{AllocError, Global};
 use std::marker::Model;
 
 /// Which version of a function's words is written: the function's number, how many words the globals have, the region
@@ -166,6 +166,28 @@ impl Drafted {
     {
         self.regions.push(region)?;
         Ok(())
+    }
+
+    /// The words alone.
+    pub fn words(&self, alloc: Global) -> Result<Vec<Word>, AllocError>
+        ensures { IfOk result (λ words. words.items ≡ map (λ line. line.word) self.now.lines) }
+    {
+        self.lines.iter().map(|line| line.word).collect(alloc)
+    }
+
+    /// The spots of the words.
+    pub fn spots(&self, alloc: Global) -> Result<Vec<Spot>, AllocError>
+        ensures { IfOk result (λ spots. spots.items ≡ map (λ line. line.spot) self.now.lines) }
+    {
+        self.lines.iter().map(|line| line.spot).collect(alloc)
+    }
+
+    /// The functions and regions, without the words.
+    pub fn into_tables(self) -> (Vec<Func>, Vec<Region>)
+        ensures functions { result.0.items ≡ self.functions }
+        ensures regions { result.1.items ≡ self.regions }
+    {
+        (self.functions, self.regions)
     }
 
     /// Puts a function behind the others.

@@ -5,6 +5,7 @@ mod assignment;
 mod draft;
 mod error;
 mod expression;
+mod program;
 mod size;
 mod statement;
 mod target;
