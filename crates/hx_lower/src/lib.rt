@@ -9,3 +9,6 @@ mod program;
 mod size;
 mod statement;
 mod target;
+
+#[cfg(test)]
+mod tests;
