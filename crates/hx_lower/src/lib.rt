@@ -5,6 +5,7 @@ mod assignment;
 mod draft;
 mod error;
 mod expression;
+pub mod listing;
 mod program;
 mod size;
 mod statement;
