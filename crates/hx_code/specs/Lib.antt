@@ -4,6 +4,7 @@ pub mod Step
 pub mod Valid
 pub mod Local
 pub mod Fits
+pub mod Calls
 pub mod Region
 pub mod Machine
 pub mod Rows

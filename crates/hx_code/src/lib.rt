@@ -4,6 +4,7 @@
 
 pub mod call;
 pub mod code;
+pub mod local;
 pub mod number;
 pub mod operands;
 pub mod step;
