@@ -3,3 +3,10 @@ mod WhatIsNamed
 mod Expressions
 mod Assignments
 mod Statements
+mod Tables
+mod Nodes
+mod Distinct
+mod Functions
+mod Calls
+mod Needs
+mod Filters

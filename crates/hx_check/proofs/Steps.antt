@@ -1,8 +1,9 @@
 -- One check after another.
-use Rattle.std.proofs.Common.{◌≡◌, Bool, true, false, refl, ap, ◌∙◌, if◌then◌else◌}
+use Rattle.std.proofs.Common.{◌≡◌, Bool, true, false, refl, ap, sym, subst, ◌∙◌, if◌then◌else◌}
 use Rattle.std.specs.Prelude.{Ok, Err}
 use Rattle.hx_check.specs.declared.error.CheckError.{CheckError}
-use Rattle.hx_check.specs.Reading.{Checks, ◌>>=◌}
+use Rattle.hx_check.specs.declared.error.CheckError.TheVariants as error
+use Rattle.hx_check.specs.Reading.{Checks, ◌>>=◌, IsFault}
 
 -- where the whole is right, the first part is, and the rest is from its answer on
 pub bind_ok : {A B : Type 0} (m : Checks A) (f : A → Checks B) (b : B) → (m >>= f) ≡ Ok b → (a : A) × (m ≡ Ok a) × (f a ≡ Ok b)
@@ -29,3 +30,18 @@ else_at b m other e = ap (λ b'. if b' then other else m) e
 -- an answer is one
 pub same_ok : {A : Type 0} (m : Checks A) (a b : A) → m ≡ Ok a → m ≡ Ok b → a ≡ b
 same_ok m a b e h = cc
+
+-- a fault of a part is one of the whole
+pub stops_at : {A B : Type 0} (m : Checks A) (f : A → Checks B) (e : CheckError) → IsFault m e → IsFault (m >>= f) e
+stops_at m f (error.UnknownName pos) h = ap (λ m'. m' >>= f) h
+stops_at m f (error.DoubledName pos) h = ap (λ m'. m' >>= f) h
+stops_at m f (error.WrongKind pos) h = ap (λ m'. m' >>= f) h
+stops_at m f (error.WrongCount pos) h = ap (λ m'. m' >>= f) h
+stops_at m f (error.OutsideLoop pos) h = ap (λ m'. m' >>= f) h
+stops_at m f error.NoMain h = ap (λ m'. m' >>= f) h
+stops_at m f (error.LimitPassed pos) h = ap (λ m'. m' >>= f) h
+stops_at m f error.TooLarge h = ap (λ m'. m' >>= f) h
+stops_at m f error.Memory h = tt
+
+pub goes_on_at : {A B : Type 0} (m : Checks A) (f : A → Checks B) (a : A) (e : CheckError) → m ≡ Ok a → IsFault (f a) e → IsFault (m >>= f) e
+goes_on_at {A = A} m f a e is h = subst (λ (m' : Checks A). IsFault (m' >>= f) e) (sym is) h

@@ -3,6 +3,7 @@ pub mod Views
 pub mod Carried
 pub mod Symbols
 pub mod Resolve
+pub mod Measures
 pub mod Refusals
 pub mod Reading
 pub mod Rows

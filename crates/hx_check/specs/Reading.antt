@@ -1,6 +1,6 @@
 -- The checker as functions on trees: the resolved tree, or the first fault. The code does just this, and the theory says what
 -- its answers mean.
-use Rattle.std.specs.Prelude.{ℕ, ◌+◌, Bool, true, false, not, ◌&&◌, ◌||◌, if◌then◌else◌, nat_eq, nat_le, nat_lt, List, [], ◌∷◌, ◌++◌, length, drop, map, flat_map, codes, Option, Some, None, Result, Ok, Err}
+use Rattle.std.specs.Prelude.{◌≡◌, ℕ, ◌+◌, Bool, true, false, not, ◌&&◌, ◌||◌, if◌then◌else◌, nat_eq, nat_le, nat_lt, List, [], ◌∷◌, ◌++◌, length, drop, map, flat_map, codes, Option, Some, None, is_some, Result, Ok, Err}
 use Rattle.hx_tree.specs.declared.token.Pos.{Pos}
 use Rattle.hx_tree.specs.declared.limits.TheConstants.{CONSTANT_LIMIT, HEIGHT_LIMIT, FUNCTION_LIMIT, PARAMETER_LIMIT, PRIVATE_LIMIT, OPERAND_LIMIT, GLOBAL_LIMIT, ARRAY_LIMIT}
 use Rattle.hx_tree.specs.declared.tree.Constant.{Constant}
@@ -15,7 +15,7 @@ use Rattle.hx_tree.specs.Need.{function_need}
 use Rattle.hx_tree.specs.Height.{program_height}
 use Rattle.hx_tree.specs.Accepted.{is_among, count, private_words, shape_words}
 use Rattle.hx_check.specs.declared.error.CheckError.{CheckError}
-use Rattle.hx_check.specs.declared.error.CheckError.TheVariants.{UnknownName, DoubledName, WrongKind, WrongCount, OutsideLoop, NoMain, LimitPassed, TooLarge}
+use Rattle.hx_check.specs.declared.error.CheckError.TheVariants.{UnknownName, DoubledName, WrongKind, WrongCount, OutsideLoop, NoMain, LimitPassed, TooLarge, Memory}
 use Rattle.hx_check.specs.declared.here.Here.{Here}
 use Rattle.hx_check.specs.declared.names.Variable.{Variable}
 use Rattle.hx_check.specs.declared.names.Variable.TheVariants as variable
@@ -23,7 +23,7 @@ use Rattle.hx_check.specs.declared.resolved.Words.{Words}
 use Rattle.hx_check.specs.declared.symbol.Symbol.{Symbol}
 use Rattle.hx_check.specs.declared.symbol.Symbol.TheVariants as symbol
 use Rattle.hx_check.specs.Resolved.{Expr, Number, Private, Word, Element, Call, Unary, Binary, Exprs, exprs, Place, ToPrivate, ToWord, ToElement, Assignment, Set, Update, Simple, Declare, Assign, Clauses, Stmt, Block, Do, CallStatement, Print, Emit, If, IfElse, Loop, Break, Continue, Return, no_stmts, stmts, Function, Program}
-use Rattle.hx_check.specs.Symbols.{Known, Scopes, private_word, with_word, symbol_at, is_in_scope}
+use Rattle.hx_check.specs.Symbols.{Declared, Known, Scopes, private_word, with_word, symbol_at, is_in_scope, numbered}
 use Rattle.hx_check.specs.Resolve.{int_word, array_words, kind_if, while_clauses}
 
 -- ---- one check after another
@@ -36,6 +36,29 @@ infixr 1 ◌>>=◌
 abbrev pub ◌>>=◌ : {A B : Type 0} → Checks A → (A → Checks B) → Checks B
 ◌>>=◌ (Ok a) f = f a
 ◌>>=◌ (Err e) f = Err e
+
+-- a result of the code, seen by view, is what a reading gives, unless memory ran out
+abbrev pub IsFault : {A : Type 0} → Checks A → CheckError → Type 0
+IsFault reading Memory = Unit {0}
+IsFault reading e = reading ≡ Err e
+
+abbrev pub IsReading : {A B : Type 0} → Checks A → (B → A) → Result B CheckError → Type 0
+IsReading reading view (Ok b) = reading ≡ Ok (view b)
+IsReading reading view (Err e) = IsFault reading e
+
+-- the same, beside what is known afterwards
+abbrev pub IsReadingNow : {A B : Type 0} → Checks (A × Known) → (B → A) → Known → Result B CheckError → Type 0
+IsReadingNow reading view after (Ok b) = reading ≡ Ok (view b, after)
+IsReadingNow reading view after (Err e) = IsFault reading e
+
+-- the same, where only what is declared afterwards is wanted
+abbrev pub IsReadingNext : {A B : Type 0} → Checks A → A → Result B CheckError → Type 0
+IsReadingNext reading after (Ok b) = reading ≡ Ok after
+IsReadingNext reading after (Err e) = IsFault reading e
+
+-- a number that is seen as it is
+abbrev pub same : ℕ → ℕ
+same n = n
 
 abbrev pub unless : Bool → CheckError → Checks (Unit {0})
 unless true e = Ok tt
@@ -274,3 +297,107 @@ abbrev mutual
   check_parts (tree.part_and p ps) symbols here known done = do
     (done', after) ← check_part p symbols here known done
     check_parts ps symbols here after done'
+
+-- ---- the items
+
+abbrev pub check_free : tree.Name → Declared → Checks (Unit {0})
+check_free x d = if is_some (look_up d.symbols x.text) then Err (DoubledName x.pos) else Ok tt
+
+abbrev pub constants_fit : List Constant → Bool
+constants_fit [] = true
+constants_fit (c ∷ cs) = if nat_le c.number CONSTANT_LIMIT then constants_fit cs else false
+
+abbrev pub shape_fits : tree.Shape → Bool
+shape_fits (tree.Scalar None) = true
+shape_fits (tree.Scalar (Some c)) = nat_le c.number CONSTANT_LIMIT
+shape_fits (tree.Array n cs) =
+    if nat_le 1 n then (if nat_le n ARRAY_LIMIT then (if nat_le (length cs) n then constants_fit cs else false) else false) else false
+
+abbrev pub declare_global : tree.GlobalDecl → Declared → Checks Declared
+declare_global g d = do
+  new ← check_free g.name d
+  fits ← unless (shape_fits g.shape) (LimitPassed g.name.pos)
+  room ← unless (nat_le (d.words + shape_words g.shape) GLOBAL_LIMIT) (LimitPassed g.name.pos)
+  Ok (record { symbols = d.symbols ++ (g.name.text, symbol_at g.shape d.words) ∷ []; words = d.words + shape_words g.shape; functions = d.functions })
+
+abbrev pub declare_function : tree.Func → Declared → Checks Declared
+declare_function f d = do
+  new ← check_free f.name d
+  few ← unless (nat_lt d.functions FUNCTION_LIMIT) (LimitPassed f.name.pos)
+  parameters ← unless (nat_le (length (tree.param_names f.params)) PARAMETER_LIMIT) (LimitPassed f.name.pos)
+  Ok (record { symbols = d.symbols ++ (f.name.text, symbol.Function d.functions f.returns (length (tree.param_names f.params))) ∷ []; words = d.words; functions = d.functions + 1 })
+
+abbrev pub declare_globals : List tree.GlobalDecl → Declared → Checks Declared
+declare_globals [] d = Ok d
+declare_globals (g ∷ gs) d = do
+  d' ← declare_global g d
+  declare_globals gs d'
+
+abbrev pub declare_item : tree.Item → Declared → Checks Declared
+declare_item (tree.Globals gs) d = declare_globals gs d
+declare_item (tree.Function f) d = declare_function f d
+
+abbrev pub declare_items : List tree.Item → Declared → Checks Declared
+declare_items [] d = Ok d
+declare_items (i ∷ is) d = do
+  d' ← declare_item i d
+  declare_items is d'
+
+abbrev pub nothing_declared : Declared
+nothing_declared = record { symbols = []; words = 0; functions = 0 }
+
+abbrev pub main_of : Option Symbol → Checks ℕ
+main_of (Some (symbol.Function number returns.Int parameters)) = if nat_eq parameters 0 then Ok number else Err NoMain
+main_of (Some (symbol.Function number returns.Void parameters)) = Err NoMain
+main_of (Some (symbol.Int word)) = Err NoMain
+main_of (Some (symbol.Array base n)) = Err NoMain
+main_of None = Err NoMain
+
+abbrev pub check_main : Map Symbol → Checks ℕ
+check_main symbols = main_of (look_up symbols (codes "main"))
+
+-- ---- functions
+
+-- a number up to a limit
+abbrev pub limited : ℕ → ℕ → CheckError → Checks ℕ
+limited n limit e = if nat_le n limit then Ok n else Err e
+
+-- names of which none is among these, nor among those before it
+abbrev pub check_distinct : List tree.Name → List (List ℕ) → Checks (Unit {0})
+check_distinct [] before = Ok tt
+check_distinct (x ∷ xs) before =
+    if is_among x.text before then Err (DoubledName x.pos) else check_distinct xs (before ++ x.text ∷ [])
+
+abbrev pub with_parameters : List tree.Name → Known
+with_parameters xs = record { scopes = numbered xs 0 ∷ []; next = length xs }
+
+abbrev pub check_function : tree.Func → Map Symbol → Checks Function
+check_function f symbols = do
+  privates ← limited (private_words f) PRIVATE_LIMIT (LimitPassed f.name.pos)
+  need ← limited (function_need f) OPERAND_LIMIT (LimitPassed f.name.pos)
+  distinct ← check_distinct (tree.param_names f.params) []
+  (body, after) ← check_parts f.body symbols (record { returns = f.returns; privates = privates; in_loop = false; is_marked = false }) (with_parameters (tree.param_names f.params)) []
+  Ok (record { name = f.name.text; parameters = length (tree.param_names f.params); privates = privates; need = need; body = stmts body })
+
+abbrev pub check_functions : List tree.Item → Map Symbol → List Function → Checks (List Function)
+check_functions [] symbols done = Ok done
+check_functions (tree.Globals gs ∷ is) symbols done = check_functions is symbols done
+check_functions (tree.Function f ∷ is) symbols done = do
+  f' ← check_function f symbols
+  check_functions is symbols (done ++ f' ∷ [])
+
+-- ---- whole programs
+
+abbrev pub check_program : tree.Program → Checks Program
+check_program p = do
+  low ← unless (nat_le (program_height p) HEIGHT_LIMIT) TooLarge
+  d ← declare_items p.items nothing_declared
+  main ← check_main d.symbols
+  functions ← check_functions p.items d.symbols []
+  Ok (record {
+    functions = functions;
+    main = main;
+    opening = flat_map (λ g. opening_words g.shape) (globals_of p);
+    input = array_words (look_up d.symbols (codes "in"));
+    input_length = int_word (look_up d.symbols (codes "n_in"));
+  })

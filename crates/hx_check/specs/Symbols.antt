@@ -31,6 +31,12 @@ items_symbols (i ∷ is) word function =
 abbrev pub symbols_of : Program → Map Symbol
 symbols_of p = items_symbols p.items 0 0
 
+-- the global names that are declared so far, and how many store words and functions they have
+pub record Declared : Type 0 where
+  pub symbols : Map Symbol
+  pub words : ℕ
+  pub functions : ℕ
+
 -- ---- locals
 
 -- the private word of each local that is known, a map for each scope, the innermost first

@@ -1,6 +1,12 @@
 -- The resolved program that a value of the code is.
-use Rattle.std.specs.Prelude.{map, option_map}
+use Rattle.std.specs.Prelude.{ℕ, List, [], ◌∷◌, map, Option, option_map}
+use Rattle.std.specs.declared.vec.Vec.{Vec}
+use Rattle.std.specs.declared.alloc.Global.{Global}
+use Rattle.hx_tree.specs.World.{Map}
 use Rattle.hx_check.specs.Resolved as resolved
+use Rattle.hx_check.specs.Symbols.{Declared, Scopes, Known}
+use Rattle.hx_check.specs.declared.symbol.Symbol.{Symbol}
+use Rattle.hx_check.specs.declared.symbol.Symbols.{Symbols}
 use Rattle.hx_check.specs.declared.resolved.Expr.{Expr, Row_of-Expr, end_of-Expr, more_of-Expr}
 use Rattle.hx_check.specs.declared.resolved.Expr.TheVariants as expr
 use Rattle.hx_check.specs.declared.resolved.Place.{Place}
@@ -17,6 +23,11 @@ use Rattle.hx_check.specs.declared.resolved.Stmt.{Stmt, Row_of-Stmt, end_of-Stmt
 use Rattle.hx_check.specs.declared.resolved.Stmt.TheVariants as stmt
 use Rattle.hx_check.specs.declared.resolved.Function.{Function}
 use Rattle.hx_check.specs.declared.resolved.Program.{Program}
+use Rattle.hx_check.specs.declared.locals.Scope.{Scope}
+use Rattle.hx_check.specs.declared.locals.Scope.TheVariants as locals
+use Rattle.hx_check.specs.declared.locals.Scopes.{Scopes as CodeScopes}
+use Rattle.hx_check.specs.declared.locals.Scopes.TheVariants as scopes
+use Rattle.hx_check.specs.declared.locals.Locals.{Locals}
 
 abbrev mutual
   pub resolved_expr : Expr → resolved.Expr
@@ -81,3 +92,45 @@ resolved_function f =
 abbrev pub resolved_of : Program → resolved.Program
 resolved_of p =
     record { functions = map resolved_function p.functions.items; main = p.main; opening = p.opening.items; input = p.input; input_length = p.input_length }
+
+-- ---- what the checker knows
+
+abbrev pub scope_of : Scope → Map ℕ
+scope_of locals.Empty = []
+scope_of (locals.Local' text word p rest) = (text.items, word) ∷ scope_of rest
+
+abbrev pub scopes_of : CodeScopes → Scopes
+scopes_of scopes.Outside = []
+scopes_of (scopes.Inside' scope p outer) = scope_of scope ∷ scopes_of outer
+
+abbrev pub known_of : Locals → Known
+known_of l = record { scopes = scopes_of l.scopes; next = l.next }
+
+abbrev pub pair_of : {A : Type 0} → Vec ℕ A × Symbol → List ℕ × Symbol
+pair_of entry = (entry.0.items, entry.1)
+
+abbrev pub declared_of : Symbols → Declared
+declared_of s = record { symbols = map pair_of s.table.entries; words = s.words; functions = s.functions }
+
+abbrev pub symbols_in : Symbols → Map Symbol
+symbols_in s = map pair_of s.table.entries
+
+-- ---- lists of nodes
+
+abbrev pub resolved_exprs_in : Vec Expr Global → List resolved.Expr
+resolved_exprs_in es = map resolved_expr es.items
+
+abbrev pub resolved_option : Option Expr → Option resolved.Expr
+resolved_option e = option_map resolved_expr e
+
+abbrev pub resolved_step : Option Assignment → Option resolved.Assignment
+resolved_step a = option_map resolved_assignment a
+
+abbrev pub resolved_simples_in : Vec Simple Global → List resolved.Simple
+resolved_simples_in ss = map resolved_simple ss.items
+
+abbrev pub resolved_stmts_in : Vec Stmt Global → List resolved.Stmt
+resolved_stmts_in ss = map resolved_stmt ss.items
+
+abbrev pub resolved_functions_in : Vec Function Global → List resolved.Function
+resolved_functions_in fs = map resolved_function fs.items

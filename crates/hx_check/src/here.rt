@@ -1,5 +1,11 @@
 // Where a statement stands.
 
+ghost use Rattle.std.specs.Prelude.{◌≡◌};
+ghost use Rattle.hx_check.specs.declared.error.CheckError.TheVariants.{OutsideLoop};
+ghost use Rattle.hx_check.specs.Reading.{inside, unless};
+
+use crate::error::CheckError;
+use hx_tree::token::Pos;
 use hx_tree::tree::Returns;
 
 /// Where a statement stands: what its function returns and how many private words it has, whether a
@@ -10,4 +16,29 @@ pub struct Here {
     pub privates: u32,
     pub in_loop: bool,
     pub is_marked: bool,
+}
+
+impl Here {
+    /// Where the body of a loop stands.
+    pub fn inside(self, marked: bool) -> Here
+        ensures { result ≡ inside marked self }
+    {
+        Here {
+            returns: self.returns,
+            privates: self.privates,
+            in_loop: true,
+            is_marked: self.is_marked || marked,
+        }
+    }
+
+    /// Refuses a `break` or a `continue` outside a loop.
+    pub fn check_loop(self, pos: Pos) -> Result<(), CheckError>
+        ensures { result ≡ unless self.in_loop (OutsideLoop pos) }
+    {
+        if self.in_loop {
+            Ok(())
+        } else {
+            Err(CheckError::OutsideLoop(pos))
+        }
+    }
 }

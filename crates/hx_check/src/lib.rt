@@ -2,9 +2,19 @@
 //! each name resolved to what it stands for.
 #![tactic(auto)]
 
+mod carried;
 pub mod checked;
+mod declare;
 pub mod error;
+mod expression;
+mod function;
+mod height;
 mod here;
+mod locals;
+mod make;
 mod names;
+mod need;
+mod privates;
 pub mod resolved;
+mod statement;
 pub mod symbol;

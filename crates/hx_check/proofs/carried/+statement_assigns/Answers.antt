@@ -1,0 +1,12 @@
+use Rattle.std.proofs.Common.{map, sym, ap, ◌∙◌}
+use Rattle.hx_check.specs.Resolved.{stmts}
+use Rattle.hx_check.specs.Views.{resolved_stmt}
+use Rattle.hx_check.specs.Carried.{stmt_assigns, stmts_assign}
+use Rattle.hx_check.proofs.Nodes.{block_is}
+use Rattle.hx_check.proofs.carried.+statement_assigns.Goals as goal
+
+pub stmt_assigns-returns-in-Block : goal.stmt_assigns-returns-in-Block
+stmt_assigns-returns-in-Block t c =
+    c.stmts_assign.ensures
+    ∙ ap (λ l. stmts_assign c.args.k (stmts (map resolved_stmt l))) c.deref.ensures.value
+    ∙ sym (ap (λ s. stmt_assigns c.args.k (resolved_stmt s)) c.in-Block.is ∙ ap (stmt_assigns c.args.k) (block_is c.in-Block.body))

@@ -1,0 +1,12 @@
+use Rattle.std.proofs.Common.{map, sym, ap, ◌∙◌}
+use Rattle.hx_check.specs.Resolved.{stmts}
+use Rattle.hx_check.specs.Views.{resolved_stmt}
+use Rattle.hx_check.specs.Carried.{stmt_declares, stmts_declare}
+use Rattle.hx_check.proofs.Nodes.{block_is}
+use Rattle.hx_check.proofs.carried.+statement_declares.Goals as goal
+
+pub stmt_declares-returns-in-Block : goal.stmt_declares-returns-in-Block
+stmt_declares-returns-in-Block t c =
+    c.stmts_declare.ensures
+    ∙ ap (λ l. stmts_declare c.args.k (stmts (map resolved_stmt l))) c.deref.ensures.value
+    ∙ sym (ap (λ s. stmt_declares c.args.k (resolved_stmt s)) c.in-Block.is ∙ ap (stmt_declares c.args.k) (block_is c.in-Block.body))

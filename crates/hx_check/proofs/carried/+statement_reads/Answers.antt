@@ -1,0 +1,12 @@
+use Rattle.std.proofs.Common.{map, sym, ap, ◌∙◌}
+use Rattle.hx_check.specs.Resolved.{stmts}
+use Rattle.hx_check.specs.Views.{resolved_stmt}
+use Rattle.hx_check.specs.Carried.{stmt_reads, stmts_read}
+use Rattle.hx_check.proofs.Nodes.{block_is}
+use Rattle.hx_check.proofs.carried.+statement_reads.Goals as goal
+
+pub stmt_reads-returns-in-Block : goal.stmt_reads-returns-in-Block
+stmt_reads-returns-in-Block t c =
+    c.stmts_read.ensures
+    ∙ ap (λ l. stmts_read c.args.k (stmts (map resolved_stmt l))) c.deref.ensures.value
+    ∙ sym (ap (λ s. stmt_reads c.args.k (resolved_stmt s)) c.in-Block.is ∙ ap (stmt_reads c.args.k) (block_is c.in-Block.body))

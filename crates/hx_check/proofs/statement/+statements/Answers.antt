@@ -1,0 +1,25 @@
+use Rattle.std.proofs.Common.{rules}
+use Rattle.std.proofs.lemmas.Grind.{common_steps}
+use Rattle.hx_check.specs.Views.{symbols_in, known_of}
+use Rattle.hx_check.proofs.Calls.{block_at, call_statement_at}
+use Rattle.hx_check.proofs.statement.+statements.Goals as goal
+
+pub statement-returns-in_err-body-in-Block : goal.statement-returns-in_err-body-in-Block
+statement-returns-in_err-body-in-Block t c =
+    rw (block_at c.args.s.now c.in-Block.ps (symbols_in c.args.symbols.now) c.args.here (known_of c.args.locals.now) c.in-Block.is) (search rules)
+
+pub statement-returns-in_ok-body-in-Block : goal.statement-returns-in_ok-body-in-Block
+statement-returns-in_ok-body-in-Block t c =
+    rw (block_at c.args.s.now c.in-Block.ps (symbols_in c.args.symbols.now) c.args.here (known_of c.args.locals.now) c.in-Block.is) (search rules)
+
+pub statement-returns-in_err-number-in-CallStatement : goal.statement-returns-in_err-number-in-CallStatement
+statement-returns-in_err-number-in-CallStatement t c =
+    rw (call_statement_at c.args.s.now c.in-CallStatement.f c.in-CallStatement.args (symbols_in c.args.symbols.now) c.args.here (known_of c.args.locals.now) c.in-CallStatement.is) (search rules)
+
+pub statement-returns-in_err-args-in-CallStatement : goal.statement-returns-in_err-args-in-CallStatement
+statement-returns-in_err-args-in-CallStatement t c =
+    rw (call_statement_at c.args.s.now c.in-CallStatement.f c.in-CallStatement.args (symbols_in c.args.symbols.now) c.args.here (known_of c.args.locals.now) c.in-CallStatement.is) (search rules)
+
+pub statement-returns-in_ok-args-in-CallStatement : goal.statement-returns-in_ok-args-in-CallStatement
+statement-returns-in_ok-args-in-CallStatement t c =
+    rw (call_statement_at c.args.s.now c.in-CallStatement.f c.in-CallStatement.args (symbols_in c.args.symbols.now) c.args.here (known_of c.args.locals.now) c.in-CallStatement.is) (search rules)

@@ -1,0 +1,235 @@
+// Declarations and statements, checked and resolved.
+
+ghost use Rattle.std.specs.Prelude.{◌≡◌, ◌++◌, [], map, option_map, OnOk, IfOk};
+ghost use Rattle.hx_tree.specs.Tree.{exprs, parts};
+ghost use Rattle.hx_tree.specs.View.{expr_of, local_of, init_of, part_of, stmt_of};
+ghost use Rattle.hx_check.specs.Resolved.{Do};
+ghost use Rattle.hx_check.specs.Views.{symbols_in, scopes_of, known_of, resolved_expr, resolved_clauses, resolved_stmt, resolved_simples_in, resolved_stmts_in};
+ghost use Rattle.hx_check.specs.Reading.{IsReading, IsReadingNow, check_locals, check_init, check_return, check_stmt, check_part, check_parts, make_loop};
+
+use crate::carried::region_of;
+use crate::error::CheckError;
+use crate::expression::{arguments, assignment, expression, step, test, value_or_zero};
+use crate::here::Here;
+use crate::locals::{Locals, Scopes};
+use crate::make::block;
+use crate::names::function_named;
+use crate::resolved::{Clauses, Expr, LoopKind, Simple, Stmt};
+use crate::symbol::Symbols;
+use hx_tree::token::Pos;
+use hx_tree::tree;
+use hx_tree::tree::{LocalDecl, Returns};
+use std::alloc::{AllocError, Global};
+
+/// The locals of a declaration, each known from after its own initialiser.
+fn local_decls(
+    alloc: Global,
+    ds: &[LocalDecl],
+    symbols: &Symbols,
+    locals: &mut Locals,
+) -> Result<Vec<Simple>, CheckError>
+    ensures { IsReadingNow (check_locals (map local_of ds.now) (symbols_in symbols.now) (known_of locals.old) []) resolved_simples_in (known_of locals.new) result }
+{
+    let mut all = Vec::new(alloc);
+    for d in ds {
+        locals.check_new(&d.name)?;
+        let value = value_or_zero(alloc, &d.init, symbols, &locals.scopes)?;
+        let word = locals.declare(alloc, &d.name)?;
+        all.push(Simple::Declare(word, value))?;
+    }
+    Ok(all)
+}
+
+/// What a `for` begins with.
+fn init(
+    alloc: Global,
+    i: &tree::Init,
+    symbols: &Symbols,
+    locals: &mut Locals,
+) -> Result<Vec<Simple>, CheckError>
+    ensures { IsReadingNow (check_init (init_of i.now) (symbols_in symbols.now) (known_of locals.old)) resolved_simples_in (known_of locals.new) result }
+{
+    match i {
+        tree::Init::Nothing => Ok(Vec::new(alloc)),
+        tree::Init::Locals(ds) => local_decls(alloc, ds, symbols, locals),
+        tree::Init::Assign(a) => {
+            let a = assignment(alloc, a, symbols, &locals.scopes)?;
+            let mut all = Vec::new(alloc);
+            all.push(Simple::Assign(a))?;
+            Ok(all)
+        }
+    }
+}
+
+/// The value of a `return`: exactly an int function gives one.
+fn returned(
+    alloc: Global,
+    e: &Option<tree::Expr>,
+    pos: Pos,
+    returns: Returns,
+    symbols: &Symbols,
+    scopes: &Scopes,
+) -> Result<Expr, CheckError>
+    ensures { IsReading (check_return pos returns (option_map expr_of e.now) (symbols_in symbols.now) (scopes_of scopes.now)) resolved_expr result }
+{
+    match (returns, e) {
+        (Returns::Int, Some(e)) => expression(alloc, e, symbols, scopes),
+        (Returns::Void, None) => Ok(Expr::Number(0)),
+        (Returns::Int, None) => Err(CheckError::WrongKind(pos)),
+        (Returns::Void, Some(_)) => Err(CheckError::WrongKind(pos)),
+    }
+}
+
+/// A loop, which is a region where it is marked and no marked loop is around it.
+fn make_loop(
+    alloc: Global,
+    marked: bool,
+    here: Here,
+    clauses: Clauses,
+    body: Stmt,
+) -> Result<Stmt, AllocError>
+    ensures { IfOk result (λ r. resolved_stmt r ≡ make_loop marked here (resolved_clauses clauses) (resolved_stmt body)) }
+{
+    let kind = if marked && !here.is_marked {
+        LoopKind::Region(region_of(alloc, here.privates, &clauses, &body)?)
+    } else {
+        LoopKind::Plain
+    };
+    Ok(Stmt::Loop(kind, clauses, Box::new(alloc, body)?))
+}
+
+/// Adds declarations to the statements of a block.
+fn append(out: &mut Vec<Stmt>, simples: Vec<Simple>) -> Result<(), AllocError>
+    ensures { OnOk result (resolved_stmts_in out.new ≡ resolved_stmts_in out.old ++ map Do (resolved_simples_in simples)) }
+{
+    for simple in simples {
+        out.push(Stmt::Simple(simple))?;
+    }
+    Ok(())
+}
+
+/// A statement. The locals that it declares in scopes of its own are forgotten after it, and keep
+/// their private words.
+#[cycle(statements)]
+fn statement(
+    alloc: Global,
+    s: &tree::Stmt,
+    symbols: &Symbols,
+    here: Here,
+    locals: &mut Locals,
+) -> Result<Stmt, CheckError>
+    ensures { IsReadingNow (check_stmt (stmt_of s.now) (symbols_in symbols.now) here (known_of locals.old)) resolved_stmt (known_of locals.new) result }
+{
+    match s {
+        tree::Stmt::Block(ps) => {
+            locals.open(alloc)?;
+            let body = statements(alloc, ps, symbols, here, locals)?;
+            locals.close();
+            Ok(block(body))
+        }
+        tree::Stmt::Empty => Ok(block(Vec::new(alloc))),
+        tree::Stmt::Assign(a) => {
+            let a = assignment(alloc, a, symbols, &locals.scopes)?;
+            Ok(Stmt::Simple(Simple::Assign(a)))
+        }
+        tree::Stmt::CallStatement(f, args) => {
+            let number = function_named(symbols, &locals.scopes, false, f, args.len())?;
+            let args = arguments(alloc, args, symbols, &locals.scopes)?;
+            Ok(Stmt::CallStatement(number, f.pos, args))
+        }
+        tree::Stmt::Print(pos, e) => {
+            Ok(Stmt::Print(*pos, expression(alloc, e, symbols, &locals.scopes)?))
+        }
+        tree::Stmt::Emit(pos, e) => {
+            Ok(Stmt::Emit(*pos, expression(alloc, e, symbols, &locals.scopes)?))
+        }
+        tree::Stmt::If(condition, body) => {
+            let condition = expression(alloc, condition, symbols, &locals.scopes)?;
+            let body = statement(alloc, body, symbols, here, locals)?;
+            Ok(Stmt::If(condition, Box::new(alloc, body)?))
+        }
+        tree::Stmt::IfElse(condition, body, other) => {
+            let condition = expression(alloc, condition, symbols, &locals.scopes)?;
+            let body = Box::new(alloc, statement(alloc, body, symbols, here, locals)?)?;
+            let other = statement(alloc, other, symbols, here, locals)?;
+            Ok(Stmt::IfElse(condition, body, Box::new(alloc, other)?))
+        }
+        tree::Stmt::While(marked, condition, body) => {
+            let condition = expression(alloc, condition, symbols, &locals.scopes)?;
+            let body = statement(alloc, body, symbols, here.inside(*marked), locals)?;
+            let clauses = Clauses {
+                init: Vec::new(alloc),
+                test: Some(condition),
+                step: None,
+            };
+            Ok(make_loop(alloc, *marked, here, clauses, body)?)
+        }
+        tree::Stmt::For(marked, head, body) => {
+            locals.open(alloc)?;
+            let clauses = Clauses {
+                init: init(alloc, &head.init, symbols, locals)?,
+                test: test(alloc, &head.test, symbols, &locals.scopes)?,
+                step: step(alloc, &head.step, symbols, &locals.scopes)?,
+            };
+            let body = statement(alloc, body, symbols, here.inside(*marked), locals)?;
+            locals.close();
+            Ok(make_loop(alloc, *marked, here, clauses, body)?)
+        }
+        tree::Stmt::Break(pos) => {
+            here.check_loop(*pos)?;
+            Ok(Stmt::Break)
+        }
+        tree::Stmt::Continue(pos) => {
+            here.check_loop(*pos)?;
+            Ok(Stmt::Continue)
+        }
+        tree::Stmt::Return(pos, e) => {
+            let value = returned(alloc, e, *pos, here.returns, symbols, &locals.scopes)?;
+            Ok(Stmt::Return(value))
+        }
+    }
+}
+
+/// Adds a part of a block to its statements.
+#[cycle(statements)]
+fn part(
+    alloc: Global,
+    p: &tree::Part,
+    symbols: &Symbols,
+    here: Here,
+    locals: &mut Locals,
+    out: &mut Vec<Stmt>,
+) -> Result<(), CheckError>
+    ensures { IsReadingNow (check_part (part_of p.now) (symbols_in symbols.now) here (known_of locals.old) (resolved_stmts_in out.old)) (λ _. resolved_stmts_in out.new) (known_of locals.new) result }
+{
+    match p {
+        tree::Part::Locals(ds) => {
+            let simples = local_decls(alloc, ds, symbols, locals)?;
+            append(out, simples)?;
+            Ok(())
+        }
+        tree::Part::Stmt(s) => {
+            let s = statement(alloc, s, symbols, here, locals)?;
+            out.push(s)?;
+            Ok(())
+        }
+    }
+}
+
+/// The statements of a block, whose declarations stay known.
+#[cycle(statements)]
+pub fn statements(
+    alloc: Global,
+    ps: &[tree::Part],
+    symbols: &Symbols,
+    here: Here,
+    locals: &mut Locals,
+) -> Result<Vec<Stmt>, CheckError>
+    ensures { IsReadingNow (check_parts (parts (map part_of ps.now)) (symbols_in symbols.now) here (known_of locals.old) []) resolved_stmts_in (known_of locals.new) result }
+{
+    let mut out = Vec::new(alloc);
+    for p in ps {
+        part(alloc, p, symbols, here, locals, &mut out)?;
+    }
+    Ok(out)
+}
