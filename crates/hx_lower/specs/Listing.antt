@@ -31,9 +31,9 @@ place_behind at text = number_behind at.col (number_behind at.line text)
 -- ---- words
 
 abbrev pub unary_name : UnaryOp → List ℕ
-unary_name unary.Neg = codes "neg"
+unary_name unary.Negate = codes "neg"
 unary_name unary.Not = codes "not"
-unary_name unary.BitNot = codes "inv"
+unary_name unary.Invert = codes "inv"
 
 abbrev pub operator_name : Operator → List ℕ
 operator_name operator.Mul = codes "mul"

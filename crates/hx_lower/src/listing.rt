@@ -218,9 +218,9 @@ fn name_of_unary(op: UnaryOp) -> &'static [u8]
     ensures { result.now ≡ unary_name op }
 {
     match op {
-        UnaryOp::Neg => b"neg",
+        UnaryOp::Negate => b"neg",
         UnaryOp::Not => b"not",
-        UnaryOp::BitNot => b"inv",
+        UnaryOp::Invert => b"inv",
     }
 }
 

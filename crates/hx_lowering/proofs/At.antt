@@ -21,7 +21,7 @@ use Rattle.hx_code.specs.Machine.{Machine, machine_step}
 use Rattle.hx_lowering.specs.Correct.{Shows}
 use Rattle.hx_lowering.proofs.Globals.{Layout, store_from, words_in, flat_store}
 use Rattle.hx_lowering.proofs.Follow.{Follows, Reaches, steps_to, turns_to, faults_at, at_once}
-use Rattle.hx_lowering.proofs.Setting.{Memory, with_store, with_text, Ended, Setting, chosen, passed}
+use Rattle.hx_lowering.proofs.Setting.{Memory, with_store, with_text, Ended, Setting, Ground, setting_of, is_active}
 
 abbrev pub layout_of : Program → Layout
 layout_of p = map (λ g. (g.name.text, shape_words g.shape)) (globals_of p)
@@ -29,18 +29,22 @@ layout_of p = map (λ g. (g.name.text, shape_words g.shape)) (globals_of p)
 abbrev pub call_at : ℕ → List ℤ → List ℤ → CallView
 call_at place ps os = record { place = place; privates = ps; operands = os }
 
-module _ (p : Program) (code : CodeView) (S : Setting code) where
+module _ (p : Program) (code : CodeView) (K : Ground) where
+  abbrev S : Setting code
+  S = setting_of code K
+
   -- the world of a memory
   abbrev pub world_at : Memory → World
   world_at m = record { store = store_from (layout_of p) 0 m.store; text = S.before ++ m.text; turns = S.turned + m.turns }
 
-  -- the machine stands at a place of a call with these private words, operands and cells, in a world
+  -- the machine stands at a place of a call with these private words and operands, in a world; while a region is active the cells
+  -- are these
   pub record At (place : ℕ) (ps os cells : List ℤ) (w : World) (m : Machine) : Type 0 where
     pub memory : Memory
     pub is : m ≡ S.here (call_at place ps os) memory
     pub world : w ≡ world_at memory
     pub room : words_in (layout_of p) ≤ length memory.store
-    pub cells_are : drop (words_in (layout_of p)) memory.store ≡ cells
+    pub cells_are : is_active K ≡ true → drop (words_in (layout_of p)) memory.store ≡ cells
 
   pub at_place : (place place' : ℕ) (ps os cells : List ℤ) (w : World) (m : Machine) → place ≡ place' → At place ps os cells w m → At place' ps os cells w m
   at_place place place' ps os cells w m e h = subst (λ q. At q ps os cells w m) e h
@@ -60,6 +64,15 @@ module _ (p : Program) (code : CodeView) (S : Setting code) where
       (ap (machine_step code) h.is ∙ S.goes _ _ h.memory (wanted (call_at place ps os) word stands ∙ asks))
       (k _ (record { memory = h.memory; is = refl; world = h.world; room = h.room; cells_are = h.cells_are }))
 
+  -- a word that asks nothing, at the end of a turn
+  pub turns_back : {A : Type 0} (n place place' : ℕ) (ps ps' os os' cells : List ℤ) (w : World) (m : Machine) (word : Word) (a : Answer A) (Done : A → World → Machine → Type 0)
+      → At place ps os cells w m → slice_get code.words place ≡ Some word → wants word (call_at place ps os) ≡ Asks ask.Goes (call_at place' ps' os')
+      → ((m' : Machine) → At place' ps' os' cells w m' → Follows code n m' a Done) → Follows code (suc n) m a Done
+  turns_back n place place' ps ps' os os' cells w m word a Done h stands asks k =
+      turns_to code n m (S.here (call_at place' ps' os') h.memory) a Done
+      (ap (machine_step code) h.is ∙ S.goes _ _ h.memory (wanted (call_at place ps os) word stands ∙ asks))
+      (k _ (record { memory = h.memory; is = refl; world = h.world; room = h.room; cells_are = h.cells_are }))
+
   -- a word of the store on top
   pub loads_to : {A : Type 0} (n place place' : ℕ) (ps os os' cells : List ℤ) (w : World) (m : Machine) (word : Word) (b : ℕ) (v : ℤ) (a : Answer A) (Done : A → World → Machine → Type 0)
       → (h : At place ps os cells w m) → slice_get code.words place ≡ Some word → wants word (call_at place ps os) ≡ Asks (ask.Loads b) (call_at place' ps os')
@@ -75,7 +88,7 @@ module _ (p : Program) (code : CodeView) (S : Setting code) where
       → (h : At place ps os cells w m) → slice_get code.words place ≡ Some word → wants word (call_at place ps os) ≡ Asks (ask.Stores b v) (call_at place' ps os')
       → w' ≡ world_at (with_store h.memory (slice_set h.memory.store b v))
       → words_in (layout_of p) ≤ length (slice_set h.memory.store b v)
-      → drop (words_in (layout_of p)) (slice_set h.memory.store b v) ≡ cells'
+      → (is_active K ≡ true → drop (words_in (layout_of p)) (slice_set h.memory.store b v) ≡ cells')
       → ((m' : Machine) → At place' ps os' cells' w' m' → Follows code n m' a Done) → Follows code n m a Done
   stores_to n place place' ps os os' cells cells' w w' m word b v a Done h stands asks world room cells_are k =
       steps_to code n m (S.here (call_at place' ps os') (with_store h.memory (slice_set h.memory.store b v))) a Done

@@ -83,3 +83,9 @@ pub follows_so : {A : Type 0} (code : CodeView) (n : ℕ) (m : Machine) (a : Ans
 follows_so code n m (Gives x w) Done Done' h r = record { steps = r.steps; enough = r.enough; holds = h x w _ r.holds }
 follows_so code n m (Faults k w) Done Done' h r = r
 follows_so code n m Unfinished Done Done' h r = r
+
+-- a part that nothing follows
+pub follows_last : {A : Type 0} (code : CodeView) (n : ℕ) (m : Machine) (a : Answer A) (Done : A → World → Machine → Type 0) → Follows code n m (and_then a (λ x w. Gives x w)) Done → Follows code n m a Done
+follows_last code n m (Gives x w) Done r = r
+follows_last code n m (Faults k w) Done r = r
+follows_last code n m Unfinished Done r = r

@@ -5,3 +5,11 @@ pub mod Stand
 pub mod At
 pub mod Known
 pub mod Names
+pub mod Values
+pub mod Drafts
+pub mod Scene
+pub mod Writes
+pub mod Assigns
+pub mod Loops
+pub mod Regions
+pub mod Marked

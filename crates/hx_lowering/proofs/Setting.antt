@@ -13,10 +13,10 @@ use Rattle.hx_code.specs.declared.word.Ask.{Ask}
 use Rattle.hx_code.specs.declared.word.Ask.TheVariants as ask
 use Rattle.hx_code.specs.declared.word.Exit.TheVariants as exit
 use Rattle.hx_code.specs.Code.{CodeView, region_of}
-use Rattle.hx_code.specs.Call.{CallView, Want, Asks, wants_at, fault_at, bytes_of}
+use Rattle.hx_code.specs.Call.{at_place, CallView, Want, Asks, wants_at, fault_at, bytes_of}
 use Rattle.hx_code.specs.Local.{LocalView, by_want, pushed, begun}
 use Rattle.hx_code.specs.Region.{held, Opened, RegionState, region_want, into_cells, from_cells, iteration_words}
-use Rattle.hx_code.specs.Machine.{Machine, machine_step, does_want, region_next, opened_by}
+use Rattle.hx_code.specs.Machine.{Machine, machine_step, does_want, region_next, opened_by, returns}
 
 -- what a call changes beside itself: the store, the text and the whole turns since it was told of, and counts that no program sees
 pub record Memory : Type 0 where
@@ -70,17 +70,17 @@ at_outside rest c m = record {
   store = m.store; text = m.text; turns = held m.turns; regions = m.regions; within = None; end = None;
 }
 
-outside_does : (code : CodeView) (rest : List CallView) (c d : CallView) (m : Memory) (a : Ask) → wants_at code c ≡ Asks a d
+pub outside_does : (code : CodeView) (rest : List CallView) (c d : CallView) (m : Memory) (a : Ask) → wants_at code c ≡ Asks a d
     → machine_step code (at_outside rest c m) ≡ does_want code (by_want code (record { below = 0; region = None; calls = c ∷ rest }) rest (Asks a d)) (at_outside rest c m)
 outside_does code rest c d m a e = ap (λ w. does_want code (by_want code (record { below = 0; region = None; calls = c ∷ rest }) rest w) (at_outside rest c m)) e
 
-abbrev ended_outside : List CallView → CallView → Memory → End → Machine
+abbrev pub ended_outside : List CallView → CallView → Memory → End → Machine
 ended_outside rest c m e = record (at_outside rest c m) { end = Some e }
 
-outside_ended : (code : CodeView) (rest : List CallView) (c : CallView) (m : Memory) (e : End) → Ended code (ended_outside rest c m e) e m.store m.text (0 + m.turns)
+pub outside_ended : (code : CodeView) (rest : List CallView) (c : CallView) (m : Memory) (e : End) → Ended code (ended_outside rest c m e) e m.store m.text (0 + m.turns)
 outside_ended code rest c m e = record { finish = refl; text = refl; store = refl; turns = let z : m.turns ≡ 0 + m.turns = omega arith in ap held z }
 
-pub outside : (code : CodeView) → List CallView → Setting code
+abbrev pub outside : (code : CodeView) → List CallView → Setting code
 outside code rest = record {
   before = [];
   turned = 0;
@@ -129,29 +129,33 @@ at_iteration o rest c m = record {
   store = m.store; text = m.text; turns = held m.turns; exit = None;
 }
 
-abbrev outer : Opener → Machine
+abbrev pub outer : Opener → Machine
 outer o = record { local = opener_local o; store = o.store; text = o.text; turns = held o.turns; regions = o.regions; within = None; end = None }
 
 abbrev pub at_inside : Opener → List CallView → CallView → Memory → Machine
 at_inside o rest c m = record (outer o) { within = Some (at_iteration o rest c m) }
 
 -- the machine once an iteration is so
-abbrev then_so : CodeView → Opener → RegionState → Machine → Machine
+abbrev pub then_so : CodeView → Opener → RegionState → Machine → Machine
 then_so code o z m = region_next code z.exit z m
 
-inside_does : (code : CodeView) (o : Opener) (rest : List CallView) (c d : CallView) (m : Memory) (a : Ask) → wants_at code c ≡ Asks a d
+pub inside_does : (code : CodeView) (o : Opener) (rest : List CallView) (c d : CallView) (m : Memory) (a : Ask) → wants_at code c ≡ Asks a d
     → machine_step code (at_inside o rest c m)
       ≡ then_so code o (region_want code (by_want code (iteration_local o rest c) rest (Asks a d)) (at_iteration o rest c m)) (at_inside o rest c m)
 inside_does code o rest c d m a e =
     ap (λ w. then_so code o (region_want code (by_want code (iteration_local o rest c) rest w) (at_iteration o rest c m)) (at_inside o rest c m)) e
 
-abbrev ended_inside : Opener → Memory → End → Machine
+abbrev pub ended_inside : Opener → Memory → End → Machine
 ended_inside o m e = record (outer o) { store = m.store; text = o.text ++ m.text; turns = held (held o.turns + held m.turns); regions = held (o.regions + 1); end = Some e }
 
-inside_ended : (code : CodeView) (o : Opener) (m : Memory) (e : End) → Ended code (ended_inside o m e) e m.store (o.text ++ m.text) (o.turns + m.turns)
+pub inside_ended : (code : CodeView) (o : Opener) (m : Memory) (e : End) → Ended code (ended_inside o m e) e m.store (o.text ++ m.text) (o.turns + m.turns)
 inside_ended code o m e = record { finish = refl; text = refl; store = refl; turns = held_more o.turns m.turns }
 
-pub inside : (code : CodeView) → Opener → List CallView → Setting code
+pub fit : (o : Opener) (m : Memory) (out : Output) (b : Bool) → nat_le (length (o.text ++ m.text) + length (bytes_of out)) TEXT_LIMIT ≡ b
+    → nat_le (length o.text + length m.text + length (bytes_of out)) TEXT_LIMIT ≡ b
+fit o m out b f = ap (λ n. nat_le (n + length (bytes_of out)) TEXT_LIMIT) (sym (length-append o.text m.text)) ∙ f
+
+abbrev pub inside : (code : CodeView) → Opener → List CallView → Setting code
 inside code o rest = record {
   before = o.text;
   turned = o.turns;
@@ -168,10 +172,6 @@ inside code o rest = record {
       (inside_ended code o m _);
   faults = λ c d m f e. subst (λ x. Ended code x (end.Fault f) m.store (o.text ++ m.text) (o.turns + m.turns)) (sym (inside_does code o rest c d m _ e)) (inside_ended code o m _);
 }
-  where
-    fit : (o : Opener) (m : Memory) (out : Output) (b : Bool) → nat_le (length (o.text ++ m.text) + length (bytes_of out)) TEXT_LIMIT ≡ b
-        → nat_le (length o.text + length m.text + length (bytes_of out)) TEXT_LIMIT ≡ b
-    fit o m out b f = ap (λ n. nat_le (n + length (bytes_of out)) TEXT_LIMIT) (sym (length-append o.text m.text)) ∙ f
 
 -- ---- a region opens, turns and is left
 
@@ -199,3 +199,61 @@ leaves_at code o c d m e =
     ∙ ap (λ n. record (outer o) {
       local = record { below = 0; region = None; calls = record { place = (region_of code o.region).exit; privates = from_cells code.globals (region_of code o.region).carried m.store o.call.privates; operands = o.call.operands } ∷ o.rest };
       store = m.store; text = o.text ++ m.text; turns = n; regions = held (o.regions + 1) }) (held_more o.turns m.turns)
+
+-- ---- both
+
+-- a call outside a region, with those below it; or one of an iteration, with those of the iteration below it
+pub data Ground : Type 0 where
+  Outside : (rest : List CallView) → Ground
+  Inside : (opener : Opener) (rest : List CallView) → Ground
+
+abbrev pub setting_of : (code : CodeView) → Ground → Setting code
+setting_of code (Outside rest) = outside code rest
+setting_of code (Inside o rest) = inside code o rest
+
+abbrev pub is_active : Ground → Bool
+is_active (Outside rest) = false
+is_active (Inside o rest) = true
+
+-- while a region is active its loop is a plain one
+pub enters_plain : (code : CodeView) (K : Ground) (c : CallView) (m : Memory) (r t : ℕ) → is_active K ≡ true → wants_at code c ≡ Asks (ask.Enters r t) c
+    → machine_step code ((setting_of code K).here c m) ≡ (setting_of code K).here (at_place c t c.operands) m
+enters_plain code (Outside rest) c m r t active e = absurd cc
+enters_plain code (Inside o rest) c m r t active e = inside_does code o rest c c m _ e
+
+-- the memory behind a region
+abbrev pub memory_behind : Opener → Memory → Memory
+memory_behind o m = record { store = m.store; text = o.text ++ m.text; turns = o.turns + m.turns; regions = held (o.regions + 1); iteration = 0 }
+
+-- the machine once the call has returned a value
+abbrev pub OutsideBack : CodeView → List CallView → ℤ → Memory → Machine → Type 0
+OutsideBack code [] v m x = Ended code x (end.Normal v) m.store m.text m.turns
+OutsideBack code (c ∷ rest) v m x = x ≡ at_outside rest (pushed v c) m
+
+abbrev pub InsideBack : CodeView → Opener → List CallView → ℤ → Memory → Machine → Type 0
+InsideBack code o [] v m x = OutsideBack code o.rest v (memory_behind o m) x
+InsideBack code o (c ∷ rest) v m x = x ≡ at_inside o rest (pushed v c) m
+
+abbrev pub Back : CodeView → Ground → ℤ → Memory → Machine → Type 0
+Back code (Outside rest) v m x = OutsideBack code rest v m x
+Back code (Inside o rest) v m x = InsideBack code o rest v m x
+
+outside_returns : (code : CodeView) (rest : List CallView) (c d : CallView) (m : Memory) (v : ℤ) → wants_at code c ≡ Asks (ask.Returns v) d → OutsideBack code rest v m (machine_step code (at_outside rest c m))
+outside_returns code [] c d m v e =
+    subst (λ x. Ended code x (end.Normal v) m.store m.text m.turns) (sym (outside_does code [] c d m _ e)) (record { finish = refl; text = refl; store = refl; turns = refl })
+outside_returns code (b ∷ rest) c d m v e = outside_does code (b ∷ rest) c d m _ e
+
+inside_returns : (code : CodeView) (o : Opener) (rest : List CallView) (c d : CallView) (m : Memory) (v : ℤ) → wants_at code c ≡ Asks (ask.Returns v) d → InsideBack code o rest v m (machine_step code (at_inside o rest c m))
+inside_returns code o [] c d m v e = subst (OutsideBack code o.rest v (memory_behind o m)) (sym (inside_does code o [] c d m _ e)) (go o.rest)
+  where
+    go : (rest : List CallView) → OutsideBack code rest v (memory_behind o m)
+        (returns v (o.call ∷ rest) (record {
+          local = record { below = 0; region = None; calls = o.call ∷ rest };
+          store = m.store; text = o.text ++ m.text; turns = held (held o.turns + held m.turns); regions = held (o.regions + 1); within = None; end = None }))
+    go [] = record { finish = refl; text = refl; store = refl; turns = held_more o.turns m.turns }
+    go (b ∷ rest) = ap (λ n. record (at_outside rest (pushed v b) (memory_behind o m)) { turns = n }) (held_more o.turns m.turns)
+inside_returns code o (b ∷ rest) c d m v e = inside_does code o (b ∷ rest) c d m _ e
+
+pub returns_back : (code : CodeView) (K : Ground) (c d : CallView) (m : Memory) (v : ℤ) → wants_at code c ≡ Asks (ask.Returns v) d → Back code K v m (machine_step code ((setting_of code K).here c m))
+returns_back code (Outside rest) c d m v e = outside_returns code rest c d m v e
+returns_back code (Inside o rest) c d m v e = inside_returns code o rest c d m v e

@@ -1,6 +1,5 @@
--- Which programs are lowered today: those of one function without locals, with marked loops whose turns are without loops, and
--- numbers, globals and operators between numbers.
-use Rattle.std.specs.Prelude.{Bool, true, false, ◌&&◌, List, [], ◌∷◌, Option, Some, None}
+-- Which programs are lowered today: those whose functions have no private words, neither parameters nor locals, and call nothing.
+use Rattle.std.specs.Prelude.{Bool, true, false, ◌&&◌, nat_eq, List, [], ◌∷◌, Option, Some, None}
 use Rattle.hx_tree.specs.declared.tree.BinaryOp.TheVariants.{Strict, And, Or}
 use Rattle.hx_check.specs.Resolved.{Expr, Number, Private, Word, Element, Call, Unary, Binary, Place, ToPrivate, ToWord, ToElement, Assignment, Set, Update, Simple, Declare, Assign, Clauses, LoopKind, Plain, IsRegion, Region, Stmt, Block, Do, CallStatement, Print, Emit, If, IfElse, Loop, Break, Continue, Return, Stmts, no_stmts, stmt_and, Function, Program}
 
@@ -22,8 +21,52 @@ serves_place (ToElement words at e) = serves_expr e
 
 abbrev pub serves_assignment : Assignment → Bool
 serves_assignment (Set p e) = serves_place p && serves_expr e
-serves_assignment (Update p op at e) = false
+serves_assignment (Update p op at e) = serves_place p && serves_expr e
 
 abbrev pub serves_simple : Simple → Bool
 serves_simple (Declare k e) = false
 serves_simple (Assign a) = serves_assignment a
+
+abbrev pub serves_simples : List Simple → Bool
+serves_simples [] = true
+serves_simples (s ∷ ss) = serves_simple s && serves_simples ss
+
+abbrev pub serves_test : Option Expr → Bool
+serves_test None = true
+serves_test (Some e) = serves_expr e
+
+abbrev pub serves_step : Option Assignment → Bool
+serves_step None = true
+serves_step (Some a) = serves_assignment a
+
+abbrev pub serves_clauses : Clauses → Bool
+serves_clauses c = serves_simples c.init && (serves_test c.test && serves_step c.step)
+
+abbrev mutual
+  pub serves_stmt : Stmt → Bool
+  serves_stmt (Block ss) = serves_stmts ss
+  serves_stmt (Do s) = serves_simple s
+  serves_stmt (CallStatement f at es) = false
+  serves_stmt (Print at e) = serves_expr e
+  serves_stmt (Emit at e) = serves_expr e
+  serves_stmt (If test s) = serves_expr test && serves_stmt s
+  serves_stmt (IfElse test s other) = serves_expr test && (serves_stmt s && serves_stmt other)
+  serves_stmt (Loop kind c s) = serves_clauses c && serves_stmt s
+  serves_stmt Break = true
+  serves_stmt Continue = true
+  serves_stmt (Return e) = serves_expr e
+
+  pub serves_stmts : Stmts → Bool
+  serves_stmts no_stmts = true
+  serves_stmts (stmt_and s ss) = serves_stmt s && serves_stmts ss
+
+abbrev pub serves_function : Function → Bool
+serves_function f = nat_eq f.privates 0 && serves_stmts f.body
+
+abbrev pub serves_functions : List Function → Bool
+serves_functions [] = true
+serves_functions (f ∷ fs) = serves_function f && serves_functions fs
+
+-- THE programs that are lowered
+abbrev pub serves : Program → Bool
+serves p = serves_functions p.functions

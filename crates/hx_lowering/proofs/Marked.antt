@@ -1,0 +1,125 @@
+-- The words of a loop, marked or not, wherever it stands.
+use Rattle.std.proofs.Common.{◌≡◌, ℕ, zero, suc, ◌+◌, ◌≤◌, ◌<◌, Bool, true, false, List, [], ◌∷◌, ◌++◌, length, Option, Some, None, ℤ, pos, refl, sym, ap, subst, ◌∙◌, arith, if◌then◌else◌}
+use Rattle.std.specs.Prelude.{option_map, IsTrue, ◌||◌, ◌&&◌, not}
+use Rattle.hx_tree.specs.Tree as tree
+use Rattle.hx_tree.specs.Tree.{Program, Name}
+use Rattle.hx_tree.specs.World.{World, Run, Environment}
+use Rattle.hx_tree.specs.Effect.{Exit, Effect, Context, inside as inside_context, is_counted, call_in, value_or, step_of, loop}
+use Rattle.hx_tree.specs.Accepted.{Surroundings, AcceptsExpr, AcceptsAssignment, IfThere}
+use Rattle.hx_check.specs.Resolved as resolved
+use Rattle.hx_check.specs.Resolved.{Clauses, Simple}
+use Rattle.hx_check.specs.Symbols.{Scopes, symbols_of}
+use Rattle.hx_check.specs.Carried.{expr_reads, assignment_reads, if_any, region_of}
+use Rattle.hx_check.specs.Resolve.{Around as ResolveAround, kind_if}
+use Rattle.hx_code.specs.declared.word.Word.TheVariants.{Enter}
+use Rattle.hx_code.specs.declared.word.Ask.TheVariants as ask
+use Rattle.hx_code.specs.Code.{CodeView}
+use Rattle.hx_code.specs.Call.{CallView, Asks, wants_of, wants_at}
+use Rattle.hx_code.specs.Machine.{Machine, machine_step}
+use Rattle.hx_lowering.specs.Lines.{Version}
+use Rattle.hx_lowering.specs.Size.{turn_size, test_size, stmt_size}
+use Rattle.hx_lowering.specs.Draft.{Draft, Targets, with_lines, put_word, inside, targets, plain_draft, turns_draft, region_at, region_draft, loop_draft, stmt_draft}
+use Rattle.hx_lowering.specs.Serves.{serves_test, serves_step}
+use Rattle.hx_lowering.proofs.Globals.{words_in}
+use Rattle.hx_lowering.proofs.Follow.{Follows, steps_to}
+use Rattle.hx_lowering.proofs.Setting.{Ground, Outside, Inside, Opener, is_active, enters_plain, setting_of}
+use Rattle.hx_lowering.proofs.Stand.{word_stands, length-put}
+use Rattle.hx_lowering.proofs.At.{layout_of, call_at, At, at_place}
+use Rattle.hx_lowering.proofs.Names.{env_of, Around}
+use Rattle.hx_lowering.proofs.Scene.{Scene, Fair, Stands, Ends, held}
+use Rattle.hx_lowering.proofs.Assigns.{Free}
+use Rattle.hx_lowering.proofs.Drafts.{HasDraft, has_word, has_stmt, has_turns, has_plain, has_region, length-stmt, length-turns}
+use Rattle.hx_lowering.proofs.Loops.{tested, within, clauses_of, plain_follows}
+use Rattle.hx_lowering.proofs.Regions.{Flat, iteration_scene, outside_scene, entered, whole, region_opens, or_true}
+
+or_false : (b : Bool) → (b || false) ≡ b
+or_false true = refl
+or_false false = refl
+
+module _ (p : Program) (code : CodeView) (words : code.globals ≡ words_in (layout_of p)) where
+  abbrev Cs : Scopes → List Simple → Option tree.Expr → Option tree.Assignment → Clauses
+  Cs scopes init test step = clauses_of p code words scopes init test step
+
+  abbrev pub marked_scene : Scene → Bool → Scene
+  marked_scene s im = record s { is_marked = im }
+
+  -- the targets of a plain loop's turns, and what stands with its test
+  abbrev pub plain_targets : Clauses → resolved.Stmt → Draft → Targets
+  plain_targets cs rb d = targets cs (stmt_size rb) (length d.lines)
+
+  abbrev pub plain_tested : Clauses → resolved.Stmt → Version → Draft → Draft
+  plain_tested cs rb v d = tested p code words cs (length d.lines + turn_size cs (stmt_size rb) + 1) v d
+
+  -- the body of a loop does what it should, in the turns of a plain loop
+  abbrev pub PlainBody : Scene → Bool → Bool → Scopes → Clauses → resolved.Stmt → (Context → Environment → Effect) → Type 0
+  PlainBody s marked im scopes cs rb body =
+      (d : Draft) → Fair p code (within p code words s (plain_targets cs rb d) (im || marked) (inside_context marked s.context))
+      → (ps cells : List ℤ) (w : World) (m : Machine) → At p code s.ground (length (plain_tested cs rb s.version d).lines) ps [] cells w m
+      → HasDraft code (stmt_draft rb s.version (plain_targets cs rb d) (plain_tested cs rb s.version d))
+      → Follows code s.context.turns m (body (inside_context marked s.context) (env_of scopes (held s ps cells)) w)
+        (Ends p code (within p code words s (plain_targets cs rb d) (im || marked) (inside_context marked s.context)) scopes (length (stmt_draft rb s.version (plain_targets cs rb d) (plain_tested cs rb s.version d)).lines))
+
+  -- and in the turns of a region
+  abbrev pub RegionBody : Scene → Scopes → Clauses → resolved.Stmt → resolved.Region → (Context → Environment → Effect) → Type 0
+  RegionBody s scopes cs rb r body =
+      (d : Draft) (o : Opener) → o.region ≡ length d.regions
+      → Fair p code (iteration_scene p code words s o r (plain_targets cs rb (entered p code words cs (stmt_size rb) s.version d)) (inside_context true s.context))
+      → (ps cells : List ℤ) (w : World) (m : Machine) → At p code (Inside o []) (length (plain_tested cs rb (inside o.region r s.version) (entered p code words cs (stmt_size rb) s.version d)).lines) ps [] cells w m
+      → HasDraft code (stmt_draft rb (inside o.region r s.version) (plain_targets cs rb (entered p code words cs (stmt_size rb) s.version d)) (plain_tested cs rb (inside o.region r s.version) (entered p code words cs (stmt_size rb) s.version d)))
+      → Follows code s.context.turns m (body (inside_context true s.context) (env_of scopes (held (iteration_scene p code words s o r (plain_targets cs rb (entered p code words cs (stmt_size rb) s.version d)) (inside_context true s.context)) ps cells)) w)
+        (Ends p code (iteration_scene p code words s o r (plain_targets cs rb (entered p code words cs (stmt_size rb) s.version d)) (inside_context true s.context)) scopes
+          (length (stmt_draft rb (inside o.region r s.version) (plain_targets cs rb (entered p code words cs (stmt_size rb) s.version d)) (plain_tested cs rb (inside o.region r s.version) (entered p code words cs (stmt_size rb) s.version d))).lines))
+
+  module _ (s : Scene) (scopes : Scopes) (here : Surroundings) (around : Around p scopes here)
+      (init : List Simple) (test : Option tree.Expr) (step : Option tree.Assignment) (rb : resolved.Stmt) (body : Context → Environment → Effect)
+      (ok_test : IfThere AcceptsExpr test here) (ok_step : IfThere AcceptsAssignment step here)
+      (served_test : IsTrue (serves_test (clauses_of p code words scopes init test step).test)) (served_step : IsTrue (serves_step (clauses_of p code words scopes init test step).step))
+      (free_test : Free s (λ k. if_any (expr_reads k) (clauses_of p code words scopes init test step).test)) (free_step : Free s (λ k. if_any (assignment_reads k) (clauses_of p code words scopes init test step).step)) where
+
+    abbrev meant : Bool → Environment → Run (Exit × Environment)
+    meant marked env = loop s.context.turns (is_counted marked s.context) (value_or (pos 1) test (call_in (inside_context marked s.context))) (body (inside_context marked s.context)) (step_of step (call_in (inside_context marked s.context))) env
+
+    abbrev draw : Version → Targets → Draft → Draft
+    draw v to d = stmt_draft rb v to d
+
+    -- the plain loop
+    plain_loop : (marked im : Bool) → Fair p code (marked_scene s im) → is_counted marked s.context ≡ false → (s.context.is_active || marked) ≡ is_active s.ground → ((im || marked) ≡ true → is_active s.ground ≡ true)
+        → PlainBody s marked im scopes (Cs scopes init test step) rb body
+        → (d : Draft) → HasDraft code (plain_draft (Cs scopes init test step) (stmt_size rb) (draw s.version) s.version d)
+        → (ps cells : List ℤ) (w : World) (m : Machine) → At p code s.ground (length d.lines) ps [] cells w m
+        → Follows code s.context.turns m (meant marked (env_of scopes (held s ps cells)) w) (Ends p code (marked_scene s im) scopes (length (plain_draft (Cs scopes init test step) (stmt_size rb) (draw s.version) s.version d).lines))
+    plain_loop marked im fair none active mark hb d has ps cells w m at =
+        let fair_in : Fair p code (within p code words s (plain_targets (Cs scopes init test step) rb d) (im || marked) (inside_context marked s.context)) = record { globals = fair.globals; carries = fair.carries; active = active; marked = mark } in
+        plain_follows p code words (marked_scene s im) (im || marked) (inside_context marked s.context) scopes here around init test step rb (body (inside_context marked s.context)) (is_counted marked s.context) none
+        ok_test ok_step served_test served_step free_test free_step d has fair_in (λ ps' cells' w' m' at' has'. hb d fair_in ps' cells' w' m' at' has') ps cells w m at
+
+    -- a marked loop while a region is active: past the region's version
+    active_loop : (o : Opener) (rest : List CallView) (r : resolved.Region) → s.ground ≡ Inside o rest → Fair p code (marked_scene s false)
+        → PlainBody s true false scopes (Cs scopes init test step) rb body
+        → (d : Draft) → HasDraft code (whole p code words r (Cs scopes init test step) rb s.version d)
+        → (ps cells : List ℤ) (w : World) (m : Machine) → At p code s.ground (length d.lines) ps [] cells w m
+        → Follows code s.context.turns m (meant true (env_of scopes (held s ps cells)) w) (Ends p code (marked_scene s false) scopes (length (whole p code words r (Cs scopes init test step) rb s.version d).lines))
+    active_loop o rest r ground fair hb d has ps cells w m at =
+        let cs = Cs scopes init test step in
+        let v = s.version in
+        let size = stmt_size rb in
+        let place = length d.lines in
+        let wv = inside (length d.regions) r v in
+        let ent = entered p code words cs size v d in
+        let turns = turns_draft cs size (draw wv) wv ent in
+        let plain = plain_draft cs size (draw v) v turns in
+        let has_plain' = has_region code plain (region_at r cs size place) has in
+        let has_turns' = has_plain code cs size (draw v) v (λ to. has_stmt code rb v to) turns has_plain' in
+        let has_ent = has_turns code cs size (draw wv) wv (λ to. has_stmt code rb wv to) ent has_turns' in
+        let to = place + 1 + (turn_size cs size + 2) in
+        let arrives : to ≡ length turns.lines = omega (arith, length-turns cs size (draw wv) wv (λ to' d'. length-stmt rb wv to' d') ent, length-put v 0 (Enter (length d.regions) to) d.lines) in
+        let on : is_active s.ground ≡ true = ap is_active ground in
+        let active : s.context.is_active ≡ true = fair.active ∙ on in
+        let counted : is_counted true s.context ≡ false = ap not active in
+        let c = call_at place ps [] in
+        let wanted : wants_at code c ≡ Asks (ask.Enters (length d.regions) to) c = ap (λ word. wants_of word c) (word_stands code v 0 (Enter (length d.regions) to) d.lines has_ent.lines) in
+        let m1 = (setting_of code s.ground).here (call_at to ps []) at.memory in
+        let at1 : At p code s.ground (length turns.lines) ps [] cells w m1 = at_place p code s.ground to (length turns.lines) ps [] cells w m1 arrives (record { memory = at.memory; is = refl; world = at.world; room = at.room; cells_are = at.cells_are }) in
+        steps_to code s.context.turns m m1 (meant true (env_of scopes (held s ps cells)) w) (Ends p code (marked_scene s false) scopes (length plain.lines))
+        (ap (machine_step code) at.is ∙ enters_plain code s.ground c at.memory (length d.regions) to on wanted)
+        (plain_loop true false fair counted (or_true s.context.is_active ∙ sym on) (λ e. on) hb turns has_plain' ps cells w m1 at1)
