@@ -7,6 +7,7 @@ mod error;
 mod expression;
 pub mod listing;
 mod program;
+mod serves;
 mod size;
 mod statement;
 mod target;
