@@ -35,7 +35,14 @@ pub assembled : (d d' : Draft) (opening : List ℤ) (main : ℕ) (input : Option
     → code ≡ code_from d' opening main input input_length
 assembled d d' opening main input input_length code drafted words spots functions regions globals opens mains inputs lengths =
     let same : record {
-        words = code.words; spots = code.spots; functions = code.functions; regions = code.regions; globals = code.globals;
-        opening = code.opening; main = code.main; input = code.input; input_length = code.input_length;
-      } ≡ code_from d opening main input input_length = rw (words, spots, functions, regions, globals, opens, mains, inputs, lengths) in
+      words = code.words;
+      spots = code.spots;
+      functions = code.functions;
+      regions = code.regions;
+      globals = code.globals;
+      opening = code.opening;
+      main = code.main;
+      input = code.input;
+      input_length = code.input_length;
+    } ≡ code_from d opening main input input_length = rw (words, spots, functions, regions, globals, opens, mains, inputs, lengths) in
     rw (← drafted) same

@@ -74,9 +74,9 @@ breaking = record {
           step = Some (Update (ToPrivate 1) Add (at 57) (Number 1));
         })
         (Block (stmts
-          (If (Private 1) Break
-          ∷ Do (Assign (Update (ToElement (record { base = 0; length = 3 }) (at 75) (Private 1)) Add (at 79) (Number 1)))
-          ∷ [])))
+        (If (Private 1) Break
+        ∷ Do (Assign (Update (ToElement (record { base = 0; length = 3 }) (at 75) (Private 1)) Add (at 79) (Number 1)))
+        ∷ [])))
         ∷ []);
   } ∷ [];
   main = 0;

@@ -58,11 +58,7 @@ pub fn put_assignment(
 }
 
 /// Puts the words of a declared local or an assignment.
-pub fn put_simple(
-    draft: &mut Drafted,
-    s: &Simple,
-    version: &Version<'_>,
-) -> Result<(), LowerError>
+pub fn put_simple(draft: &mut Drafted, s: &Simple, version: &Version<'_>) -> Result<(), LowerError>
     ensures { OnOk result (draft.new ≡ with_lines draft.old (lines.simple_lines (resolved_simple s.now) version.now draft.old.lines)) }
 {
     match s {

@@ -170,7 +170,8 @@ impl Drafted {
 
     /// The words alone.
     pub fn words(&self, alloc: Global) -> Result<Vec<Word>, AllocError>
-        ensures { IfOk result (λ words. words.items ≡ map (λ line. line.word) self.now.lines) }
+        ensures words { IfOk result (λ words. words.items ≡ map (λ line. line.word) self.now.lines) }
+        ensures few { IfOk result (λ words. length words.items < 2 ^ 32) }
     {
         self.lines.iter().map(|line| line.word).collect(alloc)
     }

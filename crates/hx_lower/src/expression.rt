@@ -54,27 +54,41 @@ pub fn put_expr(
         }
         Expr::Binary(BinaryOp::And, _, left, right) => {
             let zero_at = behind_sides(draft.place(), left, right)?;
-            put_expr(draft, left, version, height)?;
-            let above = draft.above(height);
-            draft.put(version, above, Word::JumpFalse(zero_at))?;
-            put_expr(draft, right, version, height)?;
-            draft.put(version, above, Word::JumpFalse(zero_at))?;
+            put_side(draft, left, version, height, Word::JumpFalse(zero_at))?;
+            put_side(draft, right, version, height, Word::JumpFalse(zero_at))?;
             draft.put(version, height, Word::Const(1))?;
+            let above = draft.above(height);
             draft.put(version, above, Word::Jump(zero_at + 1))?;
             draft.put(version, height, Word::Const(0))
         }
         Expr::Binary(BinaryOp::Or, _, left, right) => {
             let one_at = behind_sides(draft.place(), left, right)?;
-            put_expr(draft, left, version, height)?;
-            let above = draft.above(height);
-            draft.put(version, above, Word::JumpTrue(one_at))?;
-            put_expr(draft, right, version, height)?;
-            draft.put(version, above, Word::JumpTrue(one_at))?;
+            put_side(draft, left, version, height, Word::JumpTrue(one_at))?;
+            put_side(draft, right, version, height, Word::JumpTrue(one_at))?;
             draft.put(version, height, Word::Const(0))?;
+            let above = draft.above(height);
             draft.put(version, above, Word::Jump(one_at + 1))?;
             draft.put(version, height, Word::Const(1))
         }
     }
+}
+
+// A side of `&&` or `||`, with the jump where it decides.
+#[cycle(expressions)]
+fn put_side(
+    draft: &mut Drafted,
+    side: &Expr,
+    version: &Version<'_>,
+    height: u32,
+    decides: Word,
+) -> Result<(), LowerError>
+    requires { height ≤ length draft.old.lines }
+    ensures words { OnOk result (draft.new ≡ with_lines draft.old (lines.put version.now (height + 1) decides (lines.expr_lines (resolved_expr side.now) version.now height draft.old.lines))) }
+    ensures longer { OnOk result (length draft.old.lines < length draft.new.lines) }
+{
+    put_expr(draft, side, version, height)?;
+    let above = draft.above(height);
+    draft.put(version, above, decides)
 }
 
 // The place of the last word of `&&` or `||`, whose sides begin at a place.

@@ -1,16 +1,19 @@
-//! Lowering: the words of a checked program.
+//! Lowering: the words of a checked program, and their listing.
 #![tactic(auto)]
 
 mod assignment;
 mod draft;
 mod error;
 mod expression;
-pub mod listing;
 mod program;
 mod serves;
 mod size;
 mod statement;
 mod target;
+mod text;
+
+pub use error::LowerError;
+pub use text::listing;
 
 #[cfg(test)]
 mod tests;

@@ -1,6 +1,6 @@
 // The words of functions and of whole programs, with what is told of them.
 
-ghost use Rattle.std.specs.Prelude.{◌≡◌, IfOk, OnOk, length, map, option_map};
+ghost use Rattle.std.specs.Prelude.{◌≡◌, ◌<◌, ◌^◌, IfOk, OnOk, length, map, option_map};
 ghost use Rattle.hx_check.specs.Views.{resolved_function, resolved_of};
 ghost use Rattle.hx_lowering.specs.Draft.{function_draft, functions_draft, draft_of, code_of};
 ghost use Rattle.hx_lowering.specs.Lines as lines;
@@ -87,11 +87,9 @@ fn drafted(alloc: Global, program: &Program, globals: u32) -> Result<Drafted, Lo
 /// The words of a program, with what is told of them.
 ///
 /// Refusal 30 comes for want of memory, or where 32 bits don't number the words.
-pub fn words_and_tables(
-    alloc: Global,
-    program: &Program,
-) -> Result<(Vec<Word>, Tables), LowerError>
-    ensures { IfOk result (λ both. code_with both.0.items both.1 ≡ code_of (resolved_of program.now)) }
+pub fn words_and_tables(alloc: Global, program: &Program) -> Result<(Vec<Word>, Tables), LowerError>
+    ensures code { IfOk result (λ both. code_with both.0.items both.1 ≡ code_of (resolved_of program.now)) }
+    ensures few { IfOk result (λ both. length both.0.items < 2 ^ 32) }
 {
     let globals = global_count(&program.opening)?;
     let draft = drafted(alloc, program, globals)?;

@@ -126,7 +126,13 @@ fn put_region(
     let exit = behind(plain, turn, 1)?;
     draft.put(version, 0, Word::Enter(number, plain))?;
     let cells = cells_of(alloc, &region.carried)?;
-    put_turns(alloc, draft, body, clauses, &version.of_region(number, &cells))?;
+    put_turns(
+        alloc,
+        draft,
+        body,
+        clauses,
+        &version.of_region(number, &cells),
+    )?;
     put_plain(alloc, draft, body, clauses, version)?;
     draft.put_region(hx_code::table::Region::new(start, exit, cells, region.copied.clone()?))
 }

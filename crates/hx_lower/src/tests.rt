@@ -2,7 +2,9 @@
 
 use crate::error::LowerError;
 use crate::program::words_and_tables;
-use hx_check::resolved::{Assignment, Clauses, Expr, Function, LoopKind, Place, Program, Region, Simple, Stmt};
+use hx_check::resolved::{
+    Assignment, Clauses, Expr, Function, LoopKind, Place, Program, Region, Simple, Stmt,
+};
 use hx_code::table::{Carried, Spot};
 use hx_code::word::Word;
 use hx_tree::token::Pos;
@@ -111,8 +113,22 @@ fn a_marked_loop(rt: HostRuntime) -> Result<(), Fail> {
     assert_eq!(rt; tables.regions[0].carried().len(), 0);
     assert_eq!(rt; tables.regions[0].copied().len(), 0);
     assert_eq!(rt; tables.spots.len(), 22);
-    assert_eq!(rt; tables.spots[3], Spot { function: 0, region: Some(0), height: 2 });
-    assert_eq!(rt; tables.spots[13], Spot { function: 0, region: None, height: 2 });
+    assert_eq!(rt;
+        tables.spots[3],
+        Spot {
+            function: 0,
+            region: Some(0),
+            height: 2
+        }
+    );
+    assert_eq!(rt;
+        tables.spots[13],
+        Spot {
+            function: 0,
+            region: None,
+            height: 2
+        }
+    );
     Ok(())
 }
 
@@ -120,7 +136,13 @@ fn a_marked_loop(rt: HostRuntime) -> Result<(), Fail> {
 #[test]
 fn carried_locals(rt: HostRuntime) -> Result<(), Fail> {
     let alloc = rt.alloc();
-    let test = binary(alloc, Operator::LessEqual, 36, Expr::Private(1), Expr::Number(3))?;
+    let test = binary(
+        alloc,
+        Operator::LessEqual,
+        36,
+        Expr::Private(1),
+        Expr::Number(3),
+    )?;
     let step = Assignment::Update(Place::Private(1), Operator::Add, at(41), Expr::Number(1));
     let sum = Assignment::Update(Place::Private(0), Operator::Add, at(46), Expr::Private(1));
     let clauses = Clauses {
@@ -181,7 +203,16 @@ fn carried_locals(rt: HostRuntime) -> Result<(), Fail> {
     assert_eq!(rt; tables.regions.len(), 1);
     assert_eq!(rt; tables.regions[0].start(), 5);
     assert_eq!(rt; tables.regions[0].exit(), 32);
-    let cells = [Carried { private: 0, cell: 0 }, Carried { private: 1, cell: 1 }];
+    let cells = [
+        Carried {
+            private: 0,
+            cell: 0,
+        },
+        Carried {
+            private: 1,
+            cell: 1,
+        },
+    ];
     assert_eq!(rt; tables.regions[0].carried(), cells.as_slice());
     Ok(())
 }

@@ -9,6 +9,6 @@ pub put_expr-returns-in_ok-above-in-Call-clause-words : goal.put_expr-returns-in
 put_expr-returns-in_ok-above-in-Call-clause-words t c =
     let es = map resolved_expr c.in-Call.arguments.items in
     let all : resolved_expr c.args.e.now ≡ resolved.Call c.in-Call.function c.in-Call.at (resolved.exprs es) =
-        ap resolved_expr c.in-Call.is ∙ call_is c.in-Call.function c.in-Call.at c.in-Call.arguments in
+    ap resolved_expr c.in-Call.is ∙ call_is c.in-Call.function c.in-Call.at c.in-Call.arguments in
     let many : count (resolved.exprs es) ≡ length c.in-Call.arguments.items = count_is c.in-Call.arguments.items in
     rw all (search rules)
