@@ -13,6 +13,7 @@ use crate::expression::{put_expr, put_exprs};
 use crate::size::{stmt_size, turn_size};
 use crate::target::{Targets, behind, behind_if, counted};
 use hx_check::resolved::{Clauses, LoopKind, Region, Stmt};
+use hx_code::table;
 use hx_code::word::Word;
 use std::alloc::Global;
 
@@ -126,15 +127,11 @@ fn put_region(
     let exit = behind(plain, turn, 1)?;
     draft.put(version, 0, Word::Enter(number, plain))?;
     let cells = cells_of(alloc, &region.carried)?;
-    put_turns(
-        alloc,
-        draft,
-        body,
-        clauses,
-        &version.of_region(number, &cells),
-    )?;
+    let inside = version.of_region(number, &cells);
+    put_turns(alloc, draft, body, clauses, &inside)?;
     put_plain(alloc, draft, body, clauses, version)?;
-    draft.put_region(hx_code::table::Region::new(start, exit, cells, region.copied.clone()?))
+    let copied = region.copied.clone()?;
+    draft.put_region(table::Region::new(start, exit, cells, copied))
 }
 
 // The version of a loop that its iterations run.
