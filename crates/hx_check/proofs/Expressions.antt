@@ -32,11 +32,11 @@ mutual
       int_read x (private_word scopes x.text) (look_up symbols x.text) (sym (kind_is x symbols here scopes) ∙ h)
   complete (tree.Element x e) symbols here scopes h =
       bind_at _ _ _ _ (array_at x (private_word scopes x.text) (look_up symbols x.text) (sym (kind_is x symbols here scopes) ∙ h.0))
-          (bind_at _ _ _ _ (complete e symbols here scopes h.1) refl)
+      (bind_at _ _ _ _ (complete e symbols here scopes h.1) refl)
   complete (tree.Call f es) symbols here scopes h =
       bind_at _ _ _ _ (value_at f (count es) (private_word scopes f.text) (look_up symbols f.text) (sym (kind_is f symbols here scopes) ∙ h.0))
-          (bind_at _ _ _ _ (complete_all es symbols here scopes [] h.1)
-              (ap (λ es'. Ok (Call (function_at f symbols) f.pos es')) (exprs-list (resolve_exprs es symbols scopes))))
+      (bind_at _ _ _ _ (complete_all es symbols here scopes [] h.1)
+      (ap (λ es'. Ok (Call (function_at f symbols) f.pos es')) (exprs-list (resolve_exprs es symbols scopes))))
   complete (tree.Paren e) symbols here scopes h = complete e symbols here scopes h
   complete (tree.Unary op e) symbols here scopes h = bind_at _ _ _ _ (complete e symbols here scopes h) refl
   complete (tree.Binary op pos l r) symbols here scopes h =
@@ -46,8 +46,8 @@ mutual
   complete_all tree.no_exprs symbols here scopes done h = ap (λ l. Ok l) (sym (append-nil done))
   complete_all (tree.expr_and e es) symbols here scopes done h =
       bind_at _ _ _ _ (complete e symbols here scopes h.0)
-          (complete_all es symbols here scopes (done ++ resolve_expr e symbols scopes ∷ []) h.1
-          ∙ ap (λ l. Ok l) (append_assoc done (resolve_expr e symbols scopes ∷ []) (list_of (resolve_exprs es symbols scopes))))
+      (complete_all es symbols here scopes (done ++ resolve_expr e symbols scopes ∷ []) h.1
+      ∙ ap (λ l. Ok l) (append_assoc done (resolve_expr e symbols scopes ∷ []) (list_of (resolve_exprs es symbols scopes))))
 
 mutual
   pub sound : (e : tree.Expr) (symbols : Map Symbol) (here : Here) (scopes : Scopes) (r : Expr) → check_expr e symbols scopes ≡ Ok r → AcceptsExpr e (surroundings symbols here scopes)

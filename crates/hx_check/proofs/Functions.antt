@@ -52,10 +52,10 @@ complete_function f symbols h =
     let few : private_words f ≤ PRIVATE_LIMIT = h.few_private in
     let r = resolve_parts f.body (around symbols (here_in f)) (first_scopes f) (length xs) in
     bind_at _ _ _ _ (limited_at (private_words f) PRIVATE_LIMIT (LimitPassed f.name.pos) few)
-        (bind_at _ _ _ _ (limited_at (function_need f) OPERAND_LIMIT (LimitPassed f.name.pos) h.few_operands)
-            (bind_at _ _ _ _ (complete_distinct xs [] (fresh_of (texts_of xs) h.distinct))
-                (bind_at _ _ _ _ (complete_parts f.body symbols (here_in f) (first_scopes f) (length xs) [] few body)
-                    (ap (λ b. Ok (record { name = f.name.text; parameters = length xs; privates = private_words f; need = function_need f; body = b })) (stmts-list r)))))
+    (bind_at _ _ _ _ (limited_at (function_need f) OPERAND_LIMIT (LimitPassed f.name.pos) h.few_operands)
+    (bind_at _ _ _ _ (complete_distinct xs [] (fresh_of (texts_of xs) h.distinct))
+    (bind_at _ _ _ _ (complete_parts f.body symbols (here_in f) (first_scopes f) (length xs) [] few body)
+    (ap (λ b. Ok (record { name = f.name.text; parameters = length xs; privates = private_words f; need = function_need f; body = b })) (stmts-list r)))))
 
 pub sound_function : (f : tree.Func) (symbols : Map Symbol) (r : Function) → length (tree.param_names f.params) ≤ PARAMETER_LIMIT → check_function f symbols ≡ Ok r → AcceptsFunction (kinds symbols) f
 sound_function f symbols r few h =

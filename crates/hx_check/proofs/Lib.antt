@@ -7,6 +7,8 @@ mod Tables
 mod Nodes
 mod Distinct
 mod Functions
+mod Items
+mod Programs
 mod Calls
 mod Needs
 mod Filters
