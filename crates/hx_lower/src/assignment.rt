@@ -6,17 +6,17 @@ ghost use Rattle.hx_lowering.specs.Draft.{with_lines};
 ghost use Rattle.hx_lowering.specs.Lines as lines;
 
 use crate::draft::{Drafted, Version, array_of};
-use crate::error::LowerError;
 use crate::expression::put_expr;
 use hx_check::resolved::{Assignment, Expr, Place, Simple};
 use hx_code::word::Word;
+use std::alloc::AllocError;
 
 /// Puts the words of an assignment.
 pub fn put_assignment(
     draft: &mut Drafted,
     a: &Assignment,
     version: &Version<'_>,
-) -> Result<(), LowerError>
+) -> Result<(), AllocError>
     ensures { OnOk result (draft.new ≡ with_lines draft.old (lines.assignment_lines (resolved_assignment a.now) version.now draft.old.lines)) }
 {
     match a {
@@ -58,7 +58,7 @@ pub fn put_assignment(
 }
 
 /// Puts the words of a declared local or an assignment.
-pub fn put_simple(draft: &mut Drafted, s: &Simple, version: &Version<'_>) -> Result<(), LowerError>
+pub fn put_simple(draft: &mut Drafted, s: &Simple, version: &Version<'_>) -> Result<(), AllocError>
     ensures { OnOk result (draft.new ≡ with_lines draft.old (lines.simple_lines (resolved_simple s.now) version.now draft.old.lines)) }
 {
     match s {
@@ -75,7 +75,7 @@ pub fn put_simples(
     draft: &mut Drafted,
     ss: &[Simple],
     version: &Version<'_>,
-) -> Result<(), LowerError>
+) -> Result<(), AllocError>
     ensures { OnOk result (draft.new ≡ with_lines draft.old (lines.simples_lines (map resolved_simple ss.now) version.now draft.old.lines)) }
 {
     for s in ss {
@@ -90,7 +90,7 @@ pub fn put_test(
     test: &Option<Expr>,
     exit: u32,
     version: &Version<'_>,
-) -> Result<(), LowerError>
+) -> Result<(), AllocError>
     ensures { OnOk result (draft.new ≡ with_lines draft.old (lines.test_lines (option_map resolved_expr test.now) exit version.now draft.old.lines)) }
 {
     match test {
@@ -107,7 +107,7 @@ pub fn put_step(
     draft: &mut Drafted,
     step: &Option<Assignment>,
     version: &Version<'_>,
-) -> Result<(), LowerError>
+) -> Result<(), AllocError>
     ensures { OnOk result (draft.new ≡ with_lines draft.old (lines.step_lines (option_map resolved_assignment step.now) version.now draft.old.lines)) }
 {
     match step {

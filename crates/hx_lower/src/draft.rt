@@ -4,7 +4,6 @@ ghost use Rattle.std.specs.Prelude.{◌≡◌, ◌+◌, ◌<◌, ◌≤◌, ◌^
 ghost use Rattle.hx_lowering.specs.Draft.{with_lines, plain_version, cells_from};
 ghost use Rattle.hx_lowering.specs.Lines as lines;
 
-use crate::error::LowerError;
 use hx_check::resolved::Words;
 use hx_code::table::{Carried, Func, Region, Spot};
 use hx_code::word::{Array, Word};
@@ -54,27 +53,27 @@ impl<'r> Version<'r> {
     }
 
     /// The word that reads a private word in this version.
-    pub fn get_private(&self, private: u32) -> Result<Word, LowerError>
+    pub fn get_private(&self, private: u32) -> Result<Word, AllocError>
         ensures { IfOk result (λ w. w ≡ lines.get_private self.now private) }
     {
         match cell_of(self.carried, private) {
             None => Ok(Word::Priv(private)),
             Some(cell) => match self.globals.checked_add(cell) {
                 Some(address) => Ok(Word::Glob(address)),
-                None => Err(LowerError::Memory),
+                None => Err(AllocError),
             },
         }
     }
 
     /// The word that writes a private word in this version.
-    pub fn set_private(&self, private: u32) -> Result<Word, LowerError>
+    pub fn set_private(&self, private: u32) -> Result<Word, AllocError>
         ensures { IfOk result (λ w. w ≡ lines.set_private self.now private) }
     {
         match cell_of(self.carried, private) {
             None => Ok(Word::SetPriv(private)),
             Some(cell) => match self.globals.checked_add(cell) {
                 Some(address) => Ok(Word::SetGlob(address)),
-                None => Err(LowerError::Memory),
+                None => Err(AllocError),
             },
         }
     }
@@ -130,12 +129,12 @@ impl Drafted {
     }
 
     /// Puts a word behind the others, where a call holds so many operands.
-    pub fn put(&mut self, version: &Version<'_>, height: u32, word: Word) -> Result<(), LowerError>
+    pub fn put(&mut self, version: &Version<'_>, height: u32, word: Word) -> Result<(), AllocError>
         ensures word { OnOk result (self.new ≡ with_lines self.old (lines.put version.now height word self.old.lines)) }
         ensures longer { OnOk result (length self.new.lines ≡ length self.old.lines + 1) }
     {
         if self.lines.len() >= u32::MAX as usize {
-            return Err(LowerError::Memory);
+            return Err(AllocError);
         }
         let spot = Spot {
             function: version.function,
@@ -147,21 +146,21 @@ impl Drafted {
     }
 
     /// How many regions there are: the number of the next.
-    pub fn region_count(&self) -> Result<u32, LowerError>
+    pub fn region_count(&self) -> Result<u32, AllocError>
         ensures { IfOk result (λ n. n ≡ length self.now.regions) }
     {
         numbered(self.regions.len())
     }
 
     /// How many functions there are: the number of the next.
-    pub fn function_count(&self) -> Result<u32, LowerError>
+    pub fn function_count(&self) -> Result<u32, AllocError>
         ensures { IfOk result (λ n. n ≡ length self.now.functions) }
     {
         numbered(self.functions.len())
     }
 
     /// Puts a region behind the others.
-    pub fn put_region(&mut self, region: Region) -> Result<(), LowerError>
+    pub fn put_region(&mut self, region: Region) -> Result<(), AllocError>
         ensures { OnOk result (self.new ≡ record self.old { regions = self.old.regions ++ region ∷ [] }) }
     {
         self.regions.push(region)?;
@@ -192,7 +191,7 @@ impl Drafted {
     }
 
     /// Puts a function behind the others.
-    pub fn put_function(&mut self, function: Func) -> Result<(), LowerError>
+    pub fn put_function(&mut self, function: Func) -> Result<(), AllocError>
         ensures { OnOk result (self.new ≡ record self.old { functions = self.old.functions ++ function ∷ [] }) }
     {
         self.functions.push(function)?;
@@ -200,17 +199,17 @@ impl Drafted {
     }
 }
 
-fn numbered(count: usize) -> Result<u32, LowerError>
+fn numbered(count: usize) -> Result<u32, AllocError>
     ensures { IfOk result (λ n. n ≡ count) }
 {
     match u32::try_from(count) {
         Ok(number) => Ok(number),
-        Err(_) => Err(LowerError::Memory),
+        Err(_) => Err(AllocError),
     }
 }
 
 /// Private words and the cells that carry them, numbered from 0.
-pub fn cells_of(alloc: Global, carried: &[u32]) -> Result<Vec<Carried>, LowerError>
+pub fn cells_of(alloc: Global, carried: &[u32]) -> Result<Vec<Carried>, AllocError>
     ensures { IfOk result (λ cells. cells.items ≡ cells_from carried.now 0) }
 {
     let mut cells = Vec::new(alloc);
@@ -221,7 +220,7 @@ pub fn cells_of(alloc: Global, carried: &[u32]) -> Result<Vec<Carried>, LowerErr
             cell,
         })?;
         let Some(next) = cell.checked_add(1) else {
-            return Err(LowerError::Memory);
+            return Err(AllocError);
         };
         cell = next;
     }

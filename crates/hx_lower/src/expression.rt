@@ -9,11 +9,11 @@ ghost use Rattle.hx_lowering.specs.Lines as lines;
 ghost use Rattle.hx_lowering.specs.Size as size;
 
 use crate::draft::{Drafted, Version, array_of};
-use crate::error::LowerError;
 use crate::size::expr_size;
 use hx_check::resolved::Expr;
 use hx_code::word::Word;
 use hx_tree::tree::BinaryOp;
+use std::alloc::AllocError;
 
 /// Puts the words of an expression, whose value comes on top of so many operands.
 #[cycle(expressions)]
@@ -22,7 +22,7 @@ pub fn put_expr(
     e: &Expr,
     version: &Version<'_>,
     height: u32,
-) -> Result<(), LowerError>
+) -> Result<(), AllocError>
     requires { height ≤ length draft.old.lines }
     ensures words { OnOk result (draft.new ≡ with_lines draft.old (lines.expr_lines (resolved_expr e.now) version.now height draft.old.lines)) }
     ensures longer { OnOk result (length draft.old.lines < length draft.new.lines) }
@@ -81,7 +81,7 @@ fn put_side(
     version: &Version<'_>,
     height: u32,
     decides: Word,
-) -> Result<(), LowerError>
+) -> Result<(), AllocError>
     requires { height ≤ length draft.old.lines }
     ensures words { OnOk result (draft.new ≡ with_lines draft.old (lines.put version.now (height + 1) decides (lines.expr_lines (resolved_expr side.now) version.now height draft.old.lines))) }
     ensures longer { OnOk result (length draft.old.lines < length draft.new.lines) }
@@ -92,30 +92,30 @@ fn put_side(
 }
 
 // The place of the last word of `&&` or `||`, whose sides begin at a place.
-fn behind_sides(place: u32, left: &Expr, right: &Expr) -> Result<u32, LowerError>
+fn behind_sides(place: u32, left: &Expr, right: &Expr) -> Result<u32, AllocError>
     ensures { IfOk result (λ n. (n ≡ place + size.expr_size (resolved_expr left.now) + 1 + size.expr_size (resolved_expr right.now) + 3) × (n + 1 < 4294967296)) }
 {
     let Some(first) = expr_size(left) else {
-        return Err(LowerError::Memory);
+        return Err(AllocError);
     };
     let Some(second) = expr_size(right) else {
-        return Err(LowerError::Memory);
+        return Err(AllocError);
     };
     let behind = u64::from(place) + u64::from(first) + u64::from(second) + 4;
     if behind < u64::from(u32::MAX) {
         Ok(behind as u32)
     } else {
-        Err(LowerError::Memory)
+        Err(AllocError)
     }
 }
 
 // The word of a number: a constant of an accepted program fits 32 bits with their sign.
-fn constant(n: u32) -> Result<Word, LowerError>
+fn constant(n: u32) -> Result<Word, AllocError>
     ensures { IfOk result (λ w. w ≡ Const (pos n)) }
 {
     match i32::try_from(n) {
         Ok(value) => Ok(Word::Const(value)),
-        Err(_) => Err(LowerError::Memory),
+        Err(_) => Err(AllocError),
     }
 }
 
@@ -126,7 +126,7 @@ pub fn put_exprs(
     es: &[Expr],
     version: &Version<'_>,
     height: u32,
-) -> Result<u32, LowerError>
+) -> Result<u32, AllocError>
     requires { height ≤ length draft.old.lines }
     ensures words { OnOk result (draft.new ≡ with_lines draft.old (lines.exprs_lines (exprs (map resolved_expr es.now)) version.now height draft.old.lines)) }
     ensures longer { OnOk result (length draft.old.lines ≤ length draft.new.lines) }

@@ -5,6 +5,7 @@ mod assignment;
 mod draft;
 mod error;
 mod expression;
+mod lowering;
 mod program;
 mod serves;
 mod size;
@@ -13,6 +14,7 @@ mod target;
 mod text;
 
 pub use error::LowerError;
+pub use lowering::lower;
 pub use text::listing;
 
 #[cfg(test)]

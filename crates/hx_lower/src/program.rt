@@ -7,7 +7,6 @@ ghost use Rattle.hx_lowering.specs.Lines as lines;
 ghost use Rattle.hx_lower.specs.Words.{code_with};
 
 use crate::draft::{Drafted, Version, array_of};
-use crate::error::LowerError;
 use crate::statement::put_stmts;
 use crate::target::Targets;
 use hx_check::resolved::{Function, Program, Words};
@@ -21,7 +20,7 @@ pub fn put_function(
     draft: &mut Drafted,
     f: &Function,
     globals: u32,
-) -> Result<(), LowerError>
+) -> Result<(), AllocError>
     ensures { OnOk result (draft.new ≡ function_draft (resolved_function f.now) globals draft.old) }
 {
     let entry = draft.place();
@@ -39,7 +38,7 @@ pub fn put_functions(
     draft: &mut Drafted,
     fs: &[Function],
     globals: u32,
-) -> Result<(), LowerError>
+) -> Result<(), AllocError>
     ensures { OnOk result (draft.new ≡ functions_draft (map resolved_function fs.now) globals draft.old) }
 {
     for f in fs {
@@ -59,12 +58,12 @@ fn input_of(input: Option<Words>) -> Option<Array>
 }
 
 // How many words the globals have.
-fn global_count(opening: &Vec<i32>) -> Result<u32, LowerError>
+fn global_count(opening: &Vec<i32>) -> Result<u32, AllocError>
     ensures { IfOk result (λ n. n ≡ length opening.now.items) }
 {
     match u32::try_from(opening.len()) {
         Ok(globals) => Ok(globals),
-        Err(_) => Err(LowerError::Memory),
+        Err(_) => Err(AllocError),
     }
 }
 
@@ -75,7 +74,7 @@ fn copied(opening: &Vec<i32>) -> Result<Vec<i32>, AllocError>
 }
 
 // All that is put for a program with so many words of globals.
-fn drafted(alloc: Global, program: &Program, globals: u32) -> Result<Drafted, LowerError>
+fn drafted(alloc: Global, program: &Program, globals: u32) -> Result<Drafted, AllocError>
     requires { globals ≡ length program.now.opening.items }
     ensures { IfOk result (λ draft. draft ≡ draft_of (resolved_of program.now)) }
 {
@@ -86,8 +85,8 @@ fn drafted(alloc: Global, program: &Program, globals: u32) -> Result<Drafted, Lo
 
 /// The words of a program, with what is told of them.
 ///
-/// Refusal 30 comes for want of memory, or where 32 bits don't number the words.
-pub fn words_and_tables(alloc: Global, program: &Program) -> Result<(Vec<Word>, Tables), LowerError>
+/// Fails for want of memory, or where 32 bits don't number the words.
+pub fn words_and_tables(alloc: Global, program: &Program) -> Result<(Vec<Word>, Tables), AllocError>
     ensures code { IfOk result (λ both. code_with both.0.items both.1 ≡ code_of (resolved_of program.now)) }
     ensures few { IfOk result (λ both. length both.0.items < 2 ^ 32) }
 {

@@ -8,14 +8,13 @@ ghost use Rattle.hx_lowering.specs.Size as size;
 
 use crate::assignment::{put_simple, put_simples, put_step, put_test};
 use crate::draft::{Drafted, Version, cells_of};
-use crate::error::LowerError;
 use crate::expression::{put_expr, put_exprs};
 use crate::size::{stmt_size, turn_size};
 use crate::target::{Targets, behind, behind_if, counted};
 use hx_check::resolved::{Clauses, LoopKind, Region, Stmt};
 use hx_code::table;
 use hx_code::word::Word;
-use std::alloc::Global;
+use std::alloc::{AllocError, Global};
 
 /// Puts the words of a statement, whose `break` and `continue` go to these places.
 #[cycle(statements)]
@@ -25,7 +24,7 @@ pub fn put_stmt(
     s: &Stmt,
     version: &Version<'_>,
     to: &Targets,
-) -> Result<(), LowerError>
+) -> Result<(), AllocError>
     ensures { OnOk result (draft.new ≡ stmt_draft (resolved_stmt s.now) version.now to.now draft.old) }
 {
     match s {
@@ -80,7 +79,7 @@ pub fn put_stmts(
     ss: &[Stmt],
     version: &Version<'_>,
     to: &Targets,
-) -> Result<(), LowerError>
+) -> Result<(), AllocError>
     ensures { OnOk result (draft.new ≡ stmts_draft (stmts (map resolved_stmt ss.now)) version.now to.now draft.old) }
 {
     for s in ss {
@@ -98,7 +97,7 @@ fn put_loop(
     kind: &LoopKind,
     clauses: &Clauses,
     version: &Version<'_>,
-) -> Result<(), LowerError>
+) -> Result<(), AllocError>
     ensures { OnOk result (draft.new ≡ loop_draft (resolved_kind kind.now) (resolved_clauses clauses.now) (size.stmt_size (resolved_stmt body.now)) (λ v to d. stmt_draft (resolved_stmt body.now) v to d) version.now draft.old) }
 {
     match kind {
@@ -117,7 +116,7 @@ fn put_region(
     region: &Region,
     clauses: &Clauses,
     version: &Version<'_>,
-) -> Result<(), LowerError>
+) -> Result<(), AllocError>
     ensures { OnOk result (draft.new ≡ region_draft (resolved_region region.now) (resolved_clauses clauses.now) (size.stmt_size (resolved_stmt body.now)) (λ v to d. stmt_draft (resolved_stmt body.now) v to d) version.now draft.old) }
 {
     let number = draft.region_count()?;
@@ -142,7 +141,7 @@ fn put_turns(
     body: &Stmt,
     clauses: &Clauses,
     version: &Version<'_>,
-) -> Result<(), LowerError>
+) -> Result<(), AllocError>
     ensures { OnOk result (draft.new ≡ turns_draft (resolved_clauses clauses.now) (size.stmt_size (resolved_stmt body.now)) (λ to d. stmt_draft (resolved_stmt body.now) version.now to d) version.now draft.old) }
 {
     put_turn(alloc, draft, body, clauses, version)?;
@@ -158,7 +157,7 @@ fn put_plain(
     body: &Stmt,
     clauses: &Clauses,
     version: &Version<'_>,
-) -> Result<(), LowerError>
+) -> Result<(), AllocError>
     ensures { OnOk result (draft.new ≡ plain_draft (resolved_clauses clauses.now) (size.stmt_size (resolved_stmt body.now)) (λ to d. stmt_draft (resolved_stmt body.now) version.now to d) version.now draft.old) }
 {
     let start = draft.place();
@@ -174,7 +173,7 @@ fn put_turn(
     body: &Stmt,
     clauses: &Clauses,
     version: &Version<'_>,
-) -> Result<(), LowerError>
+) -> Result<(), AllocError>
     ensures { let c = resolved_clauses clauses.now in let s = size.stmt_size (resolved_stmt body.now) in let start = length draft.old.lines in OnOk result (draft.new ≡ turn_draft c (start + size.turn_size c s + 1) version.now (λ d. stmt_draft (resolved_stmt body.now) version.now (targets c s start) d) draft.old) }
 {
     let to = Targets::of_turn(clauses, counted(stmt_size(body))?, draft.place())?;

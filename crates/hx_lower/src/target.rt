@@ -5,9 +5,9 @@ ghost use Rattle.hx_check.specs.Views.{resolved_clauses, resolved_expr, resolved
 ghost use Rattle.hx_lowering.specs.Draft.{targets, no_targets};
 ghost use Rattle.hx_lowering.specs.Size as size;
 
-use crate::error::LowerError;
 use crate::size::{expr_size, stmt_size, test_size, turn_size};
 use hx_check::resolved::{Clauses, Expr, Stmt};
+use std::alloc::AllocError;
 use std::marker::Model;
 
 /// Where `break` and `continue` go.
@@ -37,7 +37,7 @@ impl Targets {
     }
 
     /// Those of a turn that begins at a place, with a body of so many words.
-    pub fn of_turn(clauses: &Clauses, body: u32, start: u32) -> Result<Targets, LowerError>
+    pub fn of_turn(clauses: &Clauses, body: u32, start: u32) -> Result<Targets, AllocError>
         ensures { IfOk result (λ to. to ≡ targets (resolved_clauses clauses.now) body start) }
     {
         let turn = counted(turn_size(clauses, body))?;
@@ -64,29 +64,29 @@ impl Targets {
 }
 
 /// A count of words, where 32 bits have one.
-pub fn counted(words: Option<u32>) -> Result<u32, LowerError>
+pub fn counted(words: Option<u32>) -> Result<u32, AllocError>
     ensures { IfOk result (λ n. words ≡ Some n) }
 {
     match words {
         Some(n) => Ok(n),
-        None => Err(LowerError::Memory),
+        None => Err(AllocError),
     }
 }
 
 /// The place behind two parts.
-pub fn behind(place: u32, part: u32, other: u32) -> Result<u32, LowerError>
+pub fn behind(place: u32, part: u32, other: u32) -> Result<u32, AllocError>
     ensures { IfOk result (λ n. n ≡ place + part + other) }
 {
     let behind = u64::from(place) + u64::from(part) + u64::from(other);
     if behind <= u64::from(u32::MAX) {
         Ok(behind as u32)
     } else {
-        Err(LowerError::Memory)
+        Err(AllocError)
     }
 }
 
 /// The place behind an `if`'s test with its jump, and the statement that it guards.
-pub fn behind_if(place: u32, test: &Expr, inner: &Stmt) -> Result<u32, LowerError>
+pub fn behind_if(place: u32, test: &Expr, inner: &Stmt) -> Result<u32, AllocError>
     ensures { IfOk result (λ n. n ≡ place + size.expr_size (resolved_expr test.now) + 1 + size.stmt_size (resolved_stmt inner.now)) }
 {
     let first = counted(expr_size(test))?;

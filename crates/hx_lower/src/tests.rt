@@ -1,6 +1,5 @@
 // Words of small programs, worked out by hand.
 
-use crate::error::LowerError;
 use crate::program::words_and_tables;
 use hx_check::resolved::{
     Assignment, Clauses, Expr, Function, LoopKind, Place, Program, Region, Simple, Stmt,
@@ -9,7 +8,7 @@ use hx_code::table::{Carried, Spot};
 use hx_code::word::Word;
 use hx_tree::token::Pos;
 use hx_tree::tree::{BinaryOp, Operator};
-use std::alloc::Global;
+use std::alloc::{AllocError, Global};
 use std::test::Fail;
 
 fn at(col: u32) -> Pos {
@@ -22,7 +21,7 @@ fn program_of_main(
     privates: u32,
     body: Vec<Stmt>,
     opening: Vec<i32>,
-) -> Result<Program, LowerError> {
+) -> Result<Program, AllocError> {
     let name = b"main".to_vec(alloc)?;
     let main = Function {
         name,
@@ -40,7 +39,7 @@ fn program_of_main(
     })
 }
 
-fn binary(alloc: Global, op: Operator, col: u32, l: Expr, r: Expr) -> Result<Expr, LowerError> {
+fn binary(alloc: Global, op: Operator, col: u32, l: Expr, r: Expr) -> Result<Expr, AllocError> {
     let left = Box::new(alloc, l)?;
     let right = Box::new(alloc, r)?;
     Ok(Expr::Binary(BinaryOp::Strict(op), at(col), left, right))

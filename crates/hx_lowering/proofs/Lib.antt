@@ -13,3 +13,6 @@ pub mod Assigns
 pub mod Loops
 pub mod Regions
 pub mod Marked
+pub mod Flat
+pub mod Functions
+pub mod Statements

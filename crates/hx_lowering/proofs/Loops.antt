@@ -71,7 +71,7 @@ module _ (p : Program) (code : CodeView) (words : code.globals ≡ words_in (lay
 
   -- the scene of the turns of a loop
   abbrev pub within : Scene → Targets → Bool → Context → Scene
-  within s to marked c = record s { to = to; is_marked = marked; context = c }
+  within s to marked c = record s { to = to; is_marked = marked; in_loop = true; context = c }
 
   abbrev pub clauses_of : Scopes → List Simple → Option tree.Expr → Option tree.Assignment → Clauses
   clauses_of scopes init test step = record {

@@ -60,14 +60,14 @@ module _ (p : Program) (code : CodeView) (words : code.globals ≡ words_in (lay
         (Ends p code (within p code words s (plain_targets cs rb d) (im || marked) (inside_context marked s.context)) scopes (length (stmt_draft rb s.version (plain_targets cs rb d) (plain_tested cs rb s.version d)).lines))
 
   -- and in the turns of a region
-  abbrev pub RegionBody : Scene → Scopes → Clauses → resolved.Stmt → resolved.Region → (Context → Environment → Effect) → Type 0
-  RegionBody s scopes cs rb r body =
+  abbrev pub RegionBody : Scene → Bool → Scopes → Clauses → resolved.Stmt → resolved.Region → (Context → Environment → Effect) → Type 0
+  RegionBody s mk scopes cs rb r body =
       (d : Draft) (o : Opener) → o.region ≡ length d.regions
-      → Fair p code (iteration_scene p code words s o r (plain_targets cs rb (entered p code words cs (stmt_size rb) s.version d)) (inside_context true s.context))
+      → Fair p code (iteration_scene p code words s mk o r (plain_targets cs rb (entered p code words cs (stmt_size rb) s.version d)) (inside_context true s.context))
       → (ps cells : List ℤ) (w : World) (m : Machine) → At p code (Inside o []) (length (plain_tested cs rb (inside o.region r s.version) (entered p code words cs (stmt_size rb) s.version d)).lines) ps [] cells w m
       → HasDraft code (stmt_draft rb (inside o.region r s.version) (plain_targets cs rb (entered p code words cs (stmt_size rb) s.version d)) (plain_tested cs rb (inside o.region r s.version) (entered p code words cs (stmt_size rb) s.version d)))
-      → Follows code s.context.turns m (body (inside_context true s.context) (env_of scopes (held (iteration_scene p code words s o r (plain_targets cs rb (entered p code words cs (stmt_size rb) s.version d)) (inside_context true s.context)) ps cells)) w)
-        (Ends p code (iteration_scene p code words s o r (plain_targets cs rb (entered p code words cs (stmt_size rb) s.version d)) (inside_context true s.context)) scopes
+      → Follows code s.context.turns m (body (inside_context true s.context) (env_of scopes (held (iteration_scene p code words s mk o r (plain_targets cs rb (entered p code words cs (stmt_size rb) s.version d)) (inside_context true s.context)) ps cells)) w)
+        (Ends p code (iteration_scene p code words s mk o r (plain_targets cs rb (entered p code words cs (stmt_size rb) s.version d)) (inside_context true s.context)) scopes
           (length (stmt_draft rb (inside o.region r s.version) (plain_targets cs rb (entered p code words cs (stmt_size rb) s.version d)) (plain_tested cs rb (inside o.region r s.version) (entered p code words cs (stmt_size rb) s.version d))).lines))
 
   module _ (s : Scene) (scopes : Scopes) (here : Surroundings) (around : Around p scopes here)
@@ -123,3 +123,50 @@ module _ (p : Program) (code : CodeView) (words : code.globals ≡ words_in (lay
         steps_to code s.context.turns m m1 (meant true (env_of scopes (held s ps cells)) w) (Ends p code (marked_scene s false) scopes (length plain.lines))
         (ap (machine_step code) at.is ∙ enters_plain code s.ground c at.memory (length d.regions) to on wanted)
         (plain_loop true false fair counted (or_true s.context.is_active ∙ sym on) (λ e. on) hb turns has_plain' ps cells w m1 at1)
+
+  -- a marked loop in no other of its function
+  region_loop : (g : Ground) (s : Scene) (scopes : Scopes) (here : Surroundings) (around : Around p scopes here)
+      (init : List Simple) (test : Option tree.Expr) (step : Option tree.Assignment) (rb : resolved.Stmt) (body : Context → Environment → Effect)
+      (ok_test : IfThere AcceptsExpr test here) (ok_step : IfThere AcceptsAssignment step here)
+      (served_test : IsTrue (serves_test (clauses_of p code words scopes init test step).test)) (served_step : IsTrue (serves_step (clauses_of p code words scopes init test step).step))
+      (free_test : Free s (λ k. if_any (expr_reads k) (clauses_of p code words scopes init test step).test)) (free_step : Free s (λ k. if_any (assignment_reads k) (clauses_of p code words scopes init test step).step))
+      (r : resolved.Region) → Fair p code (marked_scene (record s { ground = g }) false)
+      → Flat p code words rb → ((one other : ℕ → ℤ) → env_of scopes one ≡ env_of scopes other)
+      → PlainBody (record s { ground = g }) true false scopes (Cs scopes init test step) rb body
+      → (mk : Bool) → RegionBody s mk scopes (Cs scopes init test step) rb r body
+      → (d : Draft) → HasDraft code (whole p code words r (Cs scopes init test step) rb s.version d)
+      → (ps cells : List ℤ) (w : World) (m : Machine) → At p code g (length d.lines) ps [] cells w m
+      → Follows code s.context.turns m
+        (loop s.context.turns (is_counted true s.context) (value_or (pos 1) test (call_in (inside_context true s.context))) (body (inside_context true s.context)) (step_of step (call_in (inside_context true s.context))) (env_of scopes (held s ps cells)) w)
+        (Ends p code (marked_scene (record s { ground = g }) false) scopes (length (whole p code words r (Cs scopes init test step) rb s.version d).lines))
+  region_loop (Inside o rest) s scopes here around init test step rb body ok_test ok_step served_test served_step free_test free_step r fair flat bare hp mk hr d has ps cells w m at =
+      active_loop (record s { ground = Inside o rest }) scopes here around init test step rb body ok_test ok_step served_test served_step free_test free_step o rest r refl fair hp d has ps cells w m at
+  region_loop (Outside rest) s scopes here around init test step rb body ok_test ok_step served_test served_step free_test free_step r fair flat bare hp mk hr d has ps cells w m at =
+      let counted : is_counted true s.context ≡ true = ap not fair.active in
+      let c = inside_context true s.context in
+      subst (λ b. Follows code s.context.turns m (loop s.context.turns b (value_or (pos 1) test (call_in c)) (body c) (step_of step (call_in c)) (env_of scopes (held s ps cells)) w)
+        (Ends p code (marked_scene (record s { ground = Outside rest }) false) scopes (length (whole p code words r (Cs scopes init test step) rb s.version d).lines))) (sym counted)
+      (region_opens p code words (marked_scene s false) mk rest r c scopes here around init test step rb (body c) ok_test ok_step served_test served_step flat bare d has fair.globals (or_true s.context.is_active)
+        (λ o number fair' ps' cells' w' m' at' has'. hr d o number fair' ps' cells' w' m' at' has') ps cells w m at)
+
+  -- THE loops
+  pub loop_follows : (marked im : Bool) (s : Scene) (scopes : Scopes) (here : Surroundings) (around : Around p scopes here)
+      (init : List Simple) (test : Option tree.Expr) (step : Option tree.Assignment) (rb : resolved.Stmt) (body : Context → Environment → Effect)
+      (ok_test : IfThere AcceptsExpr test here) (ok_step : IfThere AcceptsAssignment step here)
+      (served_test : IsTrue (serves_test (clauses_of p code words scopes init test step).test)) (served_step : IsTrue (serves_step (clauses_of p code words scopes init test step).step))
+      (free_test : Free s (λ k. if_any (expr_reads k) (clauses_of p code words scopes init test step).test)) (free_step : Free s (λ k. if_any (assignment_reads k) (clauses_of p code words scopes init test step).step))
+      → Fair p code (marked_scene s im)
+      → (marked ≡ true → Flat p code words rb) → ((one other : ℕ → ℤ) → env_of scopes one ≡ env_of scopes other)
+      → PlainBody s marked im scopes (Cs scopes init test step) rb body
+      → (mk : Bool) → (marked ≡ true → im ≡ false → RegionBody s mk scopes (Cs scopes init test step) rb (region_of s.privates (Cs scopes init test step) rb) body)
+      → (d : Draft) → HasDraft code (loop_draft (kind_if (marked && not im) s.privates (Cs scopes init test step) rb) (Cs scopes init test step) (stmt_size rb) (λ v to d'. stmt_draft rb v to d') s.version d)
+      → (ps cells : List ℤ) (w : World) (m : Machine) → At p code s.ground (length d.lines) ps [] cells w m
+      → Follows code s.context.turns m
+        (loop s.context.turns (is_counted marked s.context) (value_or (pos 1) test (call_in (inside_context marked s.context))) (body (inside_context marked s.context)) (step_of step (call_in (inside_context marked s.context))) (env_of scopes (held s ps cells)) w)
+        (Ends p code (marked_scene s im) scopes (length (loop_draft (kind_if (marked && not im) s.privates (Cs scopes init test step) rb) (Cs scopes init test step) (stmt_size rb) (λ v to d'. stmt_draft rb v to d') s.version d).lines))
+  loop_follows false im s scopes here around init test step rb body ok_test ok_step served_test served_step free_test free_step fair flat bare hp mk hr d has ps cells w m at =
+      plain_loop s scopes here around init test step rb body ok_test ok_step served_test served_step free_test free_step false im fair refl (or_false s.context.is_active ∙ fair.active) (λ e. fair.marked (sym (or_false im) ∙ e)) hp d has ps cells w m at
+  loop_follows true true s scopes here around init test step rb body ok_test ok_step served_test served_step free_test free_step fair flat bare hp mk hr d has ps cells w m at =
+      plain_loop s scopes here around init test step rb body ok_test ok_step served_test served_step free_test free_step true true fair (ap not (fair.active ∙ fair.marked refl)) (or_true s.context.is_active ∙ sym (fair.marked refl)) (λ e. fair.marked refl) hp d has ps cells w m at
+  loop_follows true false s scopes here around init test step rb body ok_test ok_step served_test served_step free_test free_step fair flat bare hp mk hr d has ps cells w m at =
+      region_loop s.ground s scopes here around init test step rb body ok_test ok_step served_test served_step free_test free_step (region_of s.privates (Cs scopes init test step) rb) fair (flat refl) bare hp mk (hr refl refl) d has ps cells w m at

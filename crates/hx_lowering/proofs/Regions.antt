@@ -67,14 +67,15 @@ module _ (p : Program) (code : CodeView) (words : code.globals ≡ words_in (lay
   Flat rb = (v : Version) (to : Targets) (d : Draft) → (stmt_draft rb v to d).regions ≡ d.regions
 
   -- the scene of an iteration
-  abbrev pub iteration_scene : Scene → Opener → resolved.Region → Targets → Context → Scene
-  iteration_scene s o r to c = record {
+  abbrev pub iteration_scene : Scene → Bool → Opener → resolved.Region → Targets → Context → Scene
+  iteration_scene s mk o r to c = record {
     ground = Inside o [];
     version = inside o.region r s.version;
     fixed = λ k. None;
     to = to;
     privates = s.privates;
-    is_marked = true;
+    is_marked = mk;
+    in_loop = true;
     context = c;
   }
 
@@ -87,20 +88,20 @@ module _ (p : Program) (code : CodeView) (words : code.globals ≡ words_in (lay
   abbrev pub whole : resolved.Region → Clauses → resolved.Stmt → Version → Draft → Draft
   whole r cs rb v d = region_draft r cs (stmt_size rb) (λ v' to d'. stmt_draft rb v' to d') v d
 
-  pub region_opens : (s : Scene) (rest : List CallView) (r : resolved.Region) (c : Context) (scopes : Scopes) (here : Surroundings) → Around p scopes here
+  pub region_opens : (s : Scene) (mk : Bool) (rest : List CallView) (r : resolved.Region) (c : Context) (scopes : Scopes) (here : Surroundings) → Around p scopes here
       → (init : List Simple) (test : Option tree.Expr) (step : Option tree.Assignment) (rb : resolved.Stmt) (body : Environment → Effect)
       → IfThere AcceptsExpr test here → IfThere AcceptsAssignment step here
       → IsTrue (serves_test (clauses_of p code words scopes init test step).test) → IsTrue (serves_step (clauses_of p code words scopes init test step).step)
       → Flat rb → ((one other : ℕ → ℤ) → env_of scopes one ≡ env_of scopes other)
       → (d : Draft) → HasDraft code (whole r (clauses_of p code words scopes init test step) rb s.version d)
       → s.version.globals ≡ words_in (layout_of p) → c.is_active ≡ true
-      → ((o : Opener) → o.region ≡ length d.regions → Fair p code (iteration_scene s o r (targets (clauses_of p code words scopes init test step) (stmt_size rb) (length (entered (clauses_of p code words scopes init test step) (stmt_size rb) s.version d).lines)) c) → (ps cells : List ℤ) (w : World) (m : Machine) → At p code (Inside o []) (length (tested p code words (clauses_of p code words scopes init test step) ((length (entered (clauses_of p code words scopes init test step) (stmt_size rb) s.version d).lines) + turn_size (clauses_of p code words scopes init test step) (stmt_size rb) + 1) (inside o.region r s.version) (entered (clauses_of p code words scopes init test step) (stmt_size rb) s.version d)).lines) ps [] cells w m
+      → ((o : Opener) → o.region ≡ length d.regions → Fair p code (iteration_scene s mk o r (targets (clauses_of p code words scopes init test step) (stmt_size rb) (length (entered (clauses_of p code words scopes init test step) (stmt_size rb) s.version d).lines)) c) → (ps cells : List ℤ) (w : World) (m : Machine) → At p code (Inside o []) (length (tested p code words (clauses_of p code words scopes init test step) ((length (entered (clauses_of p code words scopes init test step) (stmt_size rb) s.version d).lines) + turn_size (clauses_of p code words scopes init test step) (stmt_size rb) + 1) (inside o.region r s.version) (entered (clauses_of p code words scopes init test step) (stmt_size rb) s.version d)).lines) ps [] cells w m
         → HasDraft code (stmt_draft rb (inside o.region r s.version) (targets (clauses_of p code words scopes init test step) (stmt_size rb) (length (entered (clauses_of p code words scopes init test step) (stmt_size rb) s.version d).lines)) (tested p code words (clauses_of p code words scopes init test step) ((length (entered (clauses_of p code words scopes init test step) (stmt_size rb) s.version d).lines) + turn_size (clauses_of p code words scopes init test step) (stmt_size rb) + 1) (inside o.region r s.version) (entered (clauses_of p code words scopes init test step) (stmt_size rb) s.version d)))
-        → Follows code c.turns m (body (env_of scopes (held (iteration_scene s o r (targets (clauses_of p code words scopes init test step) (stmt_size rb) (length (entered (clauses_of p code words scopes init test step) (stmt_size rb) s.version d).lines)) c) ps cells)) w) (Ends p code (iteration_scene s o r (targets (clauses_of p code words scopes init test step) (stmt_size rb) (length (entered (clauses_of p code words scopes init test step) (stmt_size rb) s.version d).lines)) c) scopes (length (stmt_draft rb (inside o.region r s.version) (targets (clauses_of p code words scopes init test step) (stmt_size rb) (length (entered (clauses_of p code words scopes init test step) (stmt_size rb) s.version d).lines)) (tested p code words (clauses_of p code words scopes init test step) ((length (entered (clauses_of p code words scopes init test step) (stmt_size rb) s.version d).lines) + turn_size (clauses_of p code words scopes init test step) (stmt_size rb) + 1) (inside o.region r s.version) (entered (clauses_of p code words scopes init test step) (stmt_size rb) s.version d))).lines)))
+        → Follows code c.turns m (body (env_of scopes (held (iteration_scene s mk o r (targets (clauses_of p code words scopes init test step) (stmt_size rb) (length (entered (clauses_of p code words scopes init test step) (stmt_size rb) s.version d).lines)) c) ps cells)) w) (Ends p code (iteration_scene s mk o r (targets (clauses_of p code words scopes init test step) (stmt_size rb) (length (entered (clauses_of p code words scopes init test step) (stmt_size rb) s.version d).lines)) c) scopes (length (stmt_draft rb (inside o.region r s.version) (targets (clauses_of p code words scopes init test step) (stmt_size rb) (length (entered (clauses_of p code words scopes init test step) (stmt_size rb) s.version d).lines)) (tested p code words (clauses_of p code words scopes init test step) ((length (entered (clauses_of p code words scopes init test step) (stmt_size rb) s.version d).lines) + turn_size (clauses_of p code words scopes init test step) (stmt_size rb) + 1) (inside o.region r s.version) (entered (clauses_of p code words scopes init test step) (stmt_size rb) s.version d))).lines)))
       → (ps cells : List ℤ) (w : World) (m : Machine) → At p code (Outside rest) (length d.lines) ps [] cells w m
       → Follows code c.turns m (loop c.turns true (value_or (pos 1) test (call_in c)) body (step_of step (call_in c)) (env_of scopes (held (outside_scene s rest) ps cells)) w)
         (Ends p code (outside_scene s rest) scopes (length (whole r (clauses_of p code words scopes init test step) rb s.version d).lines))
-  region_opens s rest r c scopes here around init test step rb body ok_test ok_step served_test served_step flat bare d has globals active hb ps cells w m at =
+  region_opens s mk rest r c scopes here around init test step rb body ok_test ok_step served_test served_step flat bare d has globals active hb ps cells w m at =
       let cs = clauses_of p code words scopes init test step in
       let v = s.version in
       let size = stmt_size rb in
@@ -146,7 +147,7 @@ module _ (p : Program) (code : CodeView) (words : code.globals ≡ words_in (lay
       let exit_is : (region_of code number).exit ≡ length plain.lines = ap (λ (g : RegionView). g.exit) region_is ∙ at_end in
       let mem = at.memory in
       let o : Opener = record { region = number; call = call_at place ps []; rest = rest; store = mem.store; text = mem.text; turns = mem.turns; regions = mem.regions } in
-      let si = iteration_scene s o r T c in
+      let si = iteration_scene s mk o r T c in
       let so = outside_scene s rest in
       let fair : Fair p code si = record { globals = globals; carries = λ k cell e. refl; active = active; marked = λ e. refl } in
       let ps0 = iteration_words (region_of code number) ps 0 in

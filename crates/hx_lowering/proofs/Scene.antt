@@ -19,8 +19,8 @@ use Rattle.hx_lowering.proofs.Names.{env_of}
 use Rattle.hx_lowering.proofs.Values.{value_at}
 
 -- where a statement stands: the calls around it, the version of its words, the private words that keep a value which no word
--- reads, where `break` and `continue` go, how many private words its function has, whether a marked loop of it is around, and
--- the context of its meaning
+-- reads, where `break` and `continue` go, how many private words its function has, whether a marked loop of it is around,
+-- whether a loop is, and the context of its meaning
 pub record Scene : Type 0 where
   pub ground : Ground
   pub version : Version
@@ -28,6 +28,7 @@ pub record Scene : Type 0 where
   pub to : Targets
   pub privates : ℕ
   pub is_marked : Bool
+  pub in_loop : Bool
   pub context : Context
 
 abbrev pub fixed_or : Option ℤ → ℤ → ℤ
@@ -61,8 +62,8 @@ module _ (p : Program) (code : CodeView) where
 
   abbrev pub EndsBy : Scene → Scopes → ℕ → Exit → Environment → World → Machine → Type 0
   EndsBy s scopes place GoesOn env w m = Stands s scopes place env w m
-  EndsBy s scopes place Breaks env w m = Stands s scopes s.to.break_to env w m
-  EndsBy s scopes place Continues env w m = Stands s scopes s.to.continue_to env w m
+  EndsBy s scopes place Breaks env w m = (s.in_loop ≡ true) × Stands s scopes s.to.break_to env w m
+  EndsBy s scopes place Continues env w m = (s.in_loop ≡ true) × Stands s scopes s.to.continue_to env w m
   EndsBy s scopes place (Returns v) env w m = Came s v w m
 
   -- a statement's words have done what it does
@@ -109,6 +110,6 @@ module _ (p : Program) (code : CodeView) where
             → Follows code (suc n) m' ((step env' >>= (λ env''. count_turn counted >>= (λ done. loop n counted test body step env''))) w') Done)
           → Follows code (suc n) m' (end_turn exit counted step (loop n counted test body step) env' w') Done
       ended GoesOn env' w' m' ends more = more env' w' m' ends
-      ended Continues env' w' m' ends more = more env' w' m' ends
-      ended Breaks env' w' m' ends more = leaves (suc n) env' w' m' ends
+      ended Continues env' w' m' ends more = more env' w' m' ends.1
+      ended Breaks env' w' m' ends more = leaves (suc n) env' w' m' ends.1
       ended (Returns v) env' w' m' ends more = returned (suc n) v env' w' m' ends
