@@ -1,10 +1,16 @@
 -- Code of the parts of a draft.
-use Rattle.std.proofs.Common.{◌≡◌, ℕ, List, Option, length, map, option_map}
+use Rattle.std.proofs.Common.{◌<◌, ◌^◌, ◌∙◌, ap, sym, subst, ◌≡◌, ℕ, List, Option, length, map, option_map}
 use Rattle.std.specs.Prelude.{ℤ}
 use Rattle.hx_check.specs.declared.resolved.Words.{Words}
 use Rattle.hx_code.specs.Code.{CodeView}
 use Rattle.hx_lowering.specs.declared.line.Line.{Line}
-use Rattle.hx_lowering.specs.Draft.{Draft}
+use Rattle.hx_tree.specs.Tree as tree
+use Rattle.hx_tree.specs.Accepted.{IsAccepted}
+use Rattle.hx_check.specs.Resolved as resolved
+use Rattle.hx_check.specs.Resolve.{resolve}
+use Rattle.hx_code.specs.Valid.{IsValid}
+use Rattle.hx_lowered.specs.Lowered.{LoweredCodeIsValid}
+use Rattle.hx_lowering.specs.Draft.{Draft, code_of}
 use Rattle.hx_lowering.specs.Lines.{array_of}
 
 abbrev pub code_from : Draft → List ℤ → ℕ → Option Words → Option ℕ → CodeView
@@ -46,3 +52,10 @@ assembled d d' opening main input input_length code drafted words spots function
       input_length = code.input_length;
     } ≡ code_from d opening main input input_length = rw (words, spots, functions, regions, globals, opens, mains, inputs, lengths) in
     rw (← drafted) same
+
+-- code of the words of an accepted program is valid, where there are few enough
+pub is_valid : LoweredCodeIsValid → (p : tree.Program) (q : resolved.Program) (code : CodeView)
+    → IsAccepted p → q ≡ resolve p → code ≡ code_of q → length code.words < 2 ^ 32 → IsValid code
+is_valid law p q code accepted same is few =
+    let all : code ≡ code_of (resolve p) = is ∙ ap code_of same in
+    subst IsValid (sym all) (law p accepted (subst (λ (c : CodeView). length c.words < 2 ^ 32) all few))

@@ -2,9 +2,9 @@
 
 ghost use Rattle.std.specs.Prelude.{◌≡◌, ◌<◌, ◌^◌, IfOk, OnOk, length, map, option_map};
 ghost use Rattle.hx_check.specs.Views.{resolved_function, resolved_of};
+ghost use Rattle.hx_code.specs.Validation.{code_of as code_with};
 ghost use Rattle.hx_lowering.specs.Draft.{function_draft, functions_draft, draft_of, code_of};
 ghost use Rattle.hx_lowering.specs.Lines as lines;
-ghost use Rattle.hx_lower.specs.Words.{code_with};
 
 use crate::draft::{Drafted, Version, array_of};
 use crate::statement::put_stmts;
