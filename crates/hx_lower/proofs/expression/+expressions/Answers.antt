@@ -1,0 +1,14 @@
+use Rattle.std.proofs.Common.{rules, ◌≡◌, ◌+◌, map, ap, ◌∙◌, length}
+use Rattle.hx_check.specs.Resolved as resolved
+use Rattle.hx_check.specs.Views.{resolved_expr}
+use Rattle.hx_lowering.specs.Lines.{count}
+use Rattle.hx_lower.proofs.Nodes.{call_is, count_is}
+use Rattle.hx_lower.proofs.expression.+expressions.Goals as goal
+
+pub put_expr-returns-in_ok-above-in-Call-clause-words : goal.put_expr-returns-in_ok-above-in-Call-clause-words
+put_expr-returns-in_ok-above-in-Call-clause-words t c =
+    let es = map resolved_expr c.in-Call.arguments.items in
+    let all : resolved_expr c.args.e.now ≡ resolved.Call c.in-Call.function c.in-Call.at (resolved.exprs es) =
+    ap resolved_expr c.in-Call.is ∙ call_is c.in-Call.function c.in-Call.at c.in-Call.arguments in
+    let many : count (resolved.exprs es) ≡ length c.in-Call.arguments.items = count_is c.in-Call.arguments.items in
+    rw all (search rules)

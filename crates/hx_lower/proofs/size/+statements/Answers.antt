@@ -1,0 +1,12 @@
+use Rattle.std.proofs.Common.{rules, ◌≡◌, map, sym, ap, ◌∙◌, ◌+◌}
+use Rattle.hx_check.specs.Resolved.{stmts}
+use Rattle.hx_check.specs.Views.{resolved_stmt}
+use Rattle.hx_lowering.specs.Size as size
+use Rattle.hx_lower.proofs.Nodes.{block_is}
+use Rattle.hx_lower.proofs.size.+statements.Goals as goal
+
+pub stmt_size-returns-in-Block : goal.stmt_size-returns-in-Block
+stmt_size-returns-in-Block t c =
+    let all : size.stmt_size (resolved_stmt c.args.s.now) ≡ size.stmts_size (stmts (map resolved_stmt c.in-Block.inner.items)) =
+    ap (λ e. size.stmt_size (resolved_stmt e)) c.in-Block.is ∙ ap size.stmt_size (block_is c.in-Block.inner) in
+    search rules

@@ -1,0 +1,3 @@
+pub mod Words
+pub mod Listing
+pub mod Rows

@@ -1,0 +1,95 @@
+// Places that jumps go to, told before the words on the way are put.
+
+ghost use Rattle.std.specs.Prelude.{◌≡◌, ◌+◌, IfOk};
+ghost use Rattle.hx_check.specs.Views.{resolved_clauses, resolved_expr, resolved_stmt};
+ghost use Rattle.hx_lowering.specs.Draft.{targets, no_targets};
+ghost use Rattle.hx_lowering.specs.Size as size;
+
+use crate::size::{expr_size, stmt_size, test_size, turn_size};
+use hx_check::resolved::{Clauses, Expr, Stmt};
+use std::alloc::AllocError;
+use std::marker::Model;
+
+/// Where `break` and `continue` go.
+#[derive(Drop)]
+pub struct Targets {
+    break_to: u32,
+    continue_to: u32,
+}
+
+impl Model for Targets {
+    ghost use Rattle.hx_lowering.specs.Draft as draft;
+
+    ghost Value = { draft.Targets };
+
+    ghost view = { λ to. record { break_to = to.break_to; continue_to = to.continue_to } };
+}
+
+impl Targets {
+    /// Those of a function's body, which no loop is around.
+    pub fn none() -> Targets
+        ensures { result ≡ no_targets }
+    {
+        Targets {
+            break_to: 0,
+            continue_to: 0,
+        }
+    }
+
+    /// Those of a turn that begins at a place, with a body of so many words.
+    pub fn of_turn(clauses: &Clauses, body: u32, start: u32) -> Result<Targets, AllocError>
+        ensures { IfOk result (λ to. to ≡ targets (resolved_clauses clauses.now) body start) }
+    {
+        let turn = counted(turn_size(clauses, body))?;
+        let test = counted(test_size(&clauses.test))?;
+        Ok(Targets {
+            break_to: behind(start, turn, 1)?,
+            continue_to: behind(start, test, body)?,
+        })
+    }
+
+    /// Where `break` goes.
+    pub fn break_to(&self) -> u32
+        ensures { result ≡ self.now.break_to }
+    {
+        self.break_to
+    }
+
+    /// Where `continue` goes.
+    pub fn continue_to(&self) -> u32
+        ensures { result ≡ self.now.continue_to }
+    {
+        self.continue_to
+    }
+}
+
+/// A count of words, where 32 bits have one.
+pub fn counted(words: Option<u32>) -> Result<u32, AllocError>
+    ensures { IfOk result (λ n. words ≡ Some n) }
+{
+    match words {
+        Some(n) => Ok(n),
+        None => Err(AllocError),
+    }
+}
+
+/// The place behind two parts.
+pub fn behind(place: u32, part: u32, other: u32) -> Result<u32, AllocError>
+    ensures { IfOk result (λ n. n ≡ place + part + other) }
+{
+    let behind = u64::from(place) + u64::from(part) + u64::from(other);
+    if behind <= u64::from(u32::MAX) {
+        Ok(behind as u32)
+    } else {
+        Err(AllocError)
+    }
+}
+
+/// The place behind an `if`'s test with its jump, and the statement that it guards.
+pub fn behind_if(place: u32, test: &Expr, inner: &Stmt) -> Result<u32, AllocError>
+    ensures { IfOk result (λ n. n ≡ place + size.expr_size (resolved_expr test.now) + 1 + size.stmt_size (resolved_stmt inner.now)) }
+{
+    let first = counted(expr_size(test))?;
+    let second = counted(stmt_size(inner))?;
+    behind(behind(place, first, 1)?, second, 0)
+}

@@ -1,0 +1,16 @@
+pub mod WellFormed
+pub mod Fine
+pub mod Expressions
+pub mod Behind
+pub mod Assignments
+pub mod Drafts
+pub mod Loops
+pub mod Regions
+pub mod Statements
+pub mod Functions
+pub mod Symbols
+pub mod Scopes
+pub mod Carrying
+pub mod Accepted
+pub mod Resolving
+pub mod Lowered
