@@ -1,0 +1,4 @@
+pub mod Regions
+pub mod RegionSteps
+pub mod MachineSteps
+pub mod Asking

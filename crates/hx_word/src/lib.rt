@@ -1,0 +1,9 @@
+//! The plain machine: valid code, word after word, over one store, the iterations of its regions one
+//! after another.
+#![tactic(auto)]
+
+pub mod carry;
+pub mod iterations;
+pub mod opened;
+pub mod state;
+pub mod text;
