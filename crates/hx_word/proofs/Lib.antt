@@ -2,3 +2,5 @@ pub mod Regions
 pub mod RegionSteps
 pub mod MachineSteps
 pub mod Asking
+pub mod Behind
+pub mod Inside

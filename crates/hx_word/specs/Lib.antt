@@ -1,3 +1,4 @@
+pub mod Opening
 pub mod Carry
 pub mod Running
 pub mod Plain

@@ -2,14 +2,11 @@
 use Rattle.std.specs.Prelude.{◌≡◌, ℕ, zero, suc, ◌+◌, ◌<◌, ◌≤◌, ℤ, List, length, Option, Some, None}
 use Rattle.hx_tree.specs.declared.limits.TheConstants.{CALL_LIMIT, PRIVATE_LIMIT, TEXT_LIMIT}
 use Rattle.hx_code.specs.declared.word.Exit.{Exit}
-use Rattle.hx_word.specs.declared.opened.Opened.{Opened as Kept}
 use Rattle.hx_word.specs.declared.iterations.Iterations.{Iterations}
 use Rattle.hx_code.specs.Code.{CodeView, store_words}
 use Rattle.hx_code.specs.Fits.{FitsLocal}
 use Rattle.hx_code.specs.Region.{Opened, RegionState, region_after}
-
-abbrev pub opened_of : Kept → Opened
-opened_of k = record { region = k.region; below = k.below; words = k.words; printed = k.printed }
+use Rattle.hx_word.specs.Opening.{opened_of}
 
 -- a region that runs over a store, or has ended there
 abbrev pub running : Iterations → List ℤ → Option Exit → RegionState

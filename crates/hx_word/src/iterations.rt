@@ -1,8 +1,9 @@
 // The iterations of a region, one after another.
 
-ghost use Rattle.std.specs.Prelude.{◌≡◌, ◌≢◌, ◌+◌, ◌≤◌, ℕ, ℤ, List, suc, Some, None, vec_len, vec_capacity};
+ghost use Rattle.std.specs.Prelude.{◌≡◌, ◌≢◌, ◌+◌, ◌≤◌, ℕ, ℤ, List, suc, Some, None, length, vec_len, vec_capacity};
 ghost use Rattle.hx_code.specs.Region.{region_after, region_opening, opening};
-ghost use Rattle.hx_word.specs.Running.{running, opened_of, IsOpened, RunsWell, BeforeLast};
+ghost use Rattle.hx_word.specs.Opening.{opened_of};
+ghost use Rattle.hx_word.specs.Running.{running, IsOpened, RunsWell, BeforeLast};
 
 use hx_code::code::Code;
 use hx_code::local::Local;
@@ -63,6 +64,7 @@ impl Iterations {
         ensures words { result.words ≤ steps }
         ensures all { result.exit ≡ None → result.words ≡ steps }
         ensures well { result.exit ≡ None → RunsWell code.now (running self.new store.new None) }
+        ensures long { length store.new ≡ length store.old }
         ensures opened { self.new.opened ≡ self.old.opened }
         ensures text { self.new.opened.printed + vec_len self.new.text ≤ TEXT_LIMIT }
         ensures room { TEXT_LIMIT ≤ vec_capacity self.new.text }

@@ -1,6 +1,6 @@
 use Rattle.std.proofs.Common.{ap, refl}
 use Rattle.hx_word.specs.declared.iterations.Iterations.{Iterations}
-use Rattle.hx_word.specs.Running.{opened_of}
+use Rattle.hx_word.specs.Opening.{opened_of}
 use Rattle.hx_word.proofs.iterations.Iterations.begin.Goals as goal
 
 pub returns : goal.returns

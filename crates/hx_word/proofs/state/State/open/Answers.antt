@@ -10,7 +10,8 @@ use Rattle.hx_code.specs.Local.{LocalView, depth}
 use Rattle.hx_code.specs.Region.{Opened, RegionState, region_opening, into_cells}
 use Rattle.hx_code.specs.Machine.{Machine, innermost_words, opened_by, opens}
 use Rattle.hx_word.specs.Carry.{AreCarried}
-use Rattle.hx_word.specs.Running.{running, opened_of, IsOpened, RunsWell}
+use Rattle.hx_word.specs.Opening.{opened_of}
+use Rattle.hx_word.specs.Running.{running, IsOpened, RunsWell}
 use Rattle.hx_word.specs.Plain.{machine_of, one_store, GoesOn, WaitsFor, MayResume, StandsWell, RunsInside}
 use Rattle.hx_word.proofs.Regions.{are_carried, region_is, region_there, opening_fits, length-into_cells}
 use Rattle.hx_word.proofs.state.State.open.Goals as goal
