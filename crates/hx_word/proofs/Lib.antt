@@ -4,3 +4,4 @@ pub mod MachineSteps
 pub mod Asking
 pub mod Behind
 pub mod Inside
+pub mod Advance
