@@ -5,3 +5,4 @@ pub mod Asking
 pub mod Behind
 pub mod Inside
 pub mod Advance
+pub mod First

@@ -5,5 +5,7 @@
 pub mod carry;
 pub mod iterations;
 pub mod opened;
+pub mod opening;
+pub mod plain;
 pub mod state;
 pub mod text;
