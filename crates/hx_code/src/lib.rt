@@ -9,4 +9,5 @@ pub mod number;
 pub mod operands;
 pub mod step;
 pub mod table;
+pub mod validate;
 pub mod word;
