@@ -11,7 +11,7 @@ use Rattle.hx_code.specs.Fits.{FitsCall, FitsIn, FitsLocal, region_in}
 use Rattle.hx_code.specs.Machine.{first_local, opening_store, filled, counted, array_words, InputFits}
 use Rattle.hx_word.specs.Plain.{RunsOutside}
 
-length-filled : (code : CodeView) (a : Option Array) (input words : List ℤ) → IsArrayOrNone code a → length words ≡ code.globals → length input ≤ array_words a → length (filled a input words) ≡ code.globals
+length-filled : (code : CodeView) (a : Option Array) (input words : List ℤ) → IsArrayOrNone code.globals a → length words ≡ code.globals → length input ≤ array_words a → length (filled a input words) ≡ code.globals
 length-filled code None input words there long fits = long
 length-filled code (Some a) input words there long fits =
     simp (length-append, length-take, length-drop) (omega arith)

@@ -5,7 +5,7 @@ use Rattle.hx_code.specs.Code.{RegionView, region_of}
 use Rattle.hx_code.specs.Region.{from_cells, words_after}
 use Rattle.hx_word.specs.Carry.{AreCarried}
 use Rattle.hx_word.specs.Opening.{opened_of}
-use Rattle.hx_word.proofs.Regions.{are_carried, region_is}
+use Rattle.hx_word.proofs.Regions.{are_carried}
 use Rattle.hx_word.proofs.opened.words_behind.Goals as goal
 
 pub load_cells-requires-clause-words : goal.load_cells-requires-clause-words

@@ -5,7 +5,7 @@ use Rattle.hx_code.specs.Code.{RegionView, region_of}
 use Rattle.hx_code.specs.Local.{with_calls, closed}
 use Rattle.hx_code.specs.Machine.{Machine, goes_behind, left_to, returns}
 use Rattle.hx_word.specs.Plain.{machine_of, StandsWell, RunsOutside}
-use Rattle.hx_word.proofs.Regions.{region_is}
+use Rattle.hx_code.proofs.Regions.{the_region}
 use Rattle.hx_word.proofs.MachineSteps.{out_of, stands_out, stands_ended}
 use Rattle.hx_word.proofs.Behind.{some_waits, region_known, left_runs, closed_runs, has_caller, returns_last, returns_on}
 use Rattle.hx_word.proofs.state.State.go_behind.Goals as goal
@@ -26,6 +26,6 @@ returns-in-Left-clause-behind c =
     let m = out_of c.args.self.now in
     let r = c.args.self.now.iterations.opened.region in
     let g = c.region_at-region.result.now in
-    let exit : c.exit.result ≡ (region_of code r).exit = c.exit.ensures ∙ ap (λ (x : RegionView). x.exit) (sym (region_is code r g c.region_at-region.ensures)) in
+    let exit : c.exit.result ≡ (region_of code r).exit = c.exit.ensures ∙ ap (λ (x : RegionView). x.exit) (sym (the_region code r g c.region_at-region.ensures)) in
     let same : c.leave_to.new.self ≡ with_calls l (left_to (region_of code r).exit c.args.words.now l.calls) = c.leave_to.ensures ∙ ap (λ p. with_calls l (left_to p c.args.words.now l.calls)) exit in
     subst (λ e. record m { local = c.leave_to.new.self } ≡ goes_behind code r e c.args.words.now m) (sym c.in-Left.is) (ap (λ x. record m { local = x }) same)

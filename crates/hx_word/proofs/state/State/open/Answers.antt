@@ -13,7 +13,8 @@ use Rattle.hx_word.specs.Carry.{AreCarried}
 use Rattle.hx_word.specs.Opening.{opened_of}
 use Rattle.hx_word.specs.Running.{running, IsOpened, RunsWell}
 use Rattle.hx_word.specs.Plain.{machine_of, one_store, GoesOn, WaitsFor, MayResume, StandsWell, RunsInside}
-use Rattle.hx_word.proofs.Regions.{are_carried, region_is, region_there, opening_fits, length-into_cells}
+use Rattle.hx_code.proofs.Regions.{the_region, length-into}
+use Rattle.hx_word.proofs.Regions.{are_carried, opening_fits}
 use Rattle.hx_word.proofs.state.State.open.Goals as goal
 
 some_calls : (code : CodeView) (r : ℕ) (cs : List CallView) → WaitsFor code r cs → (0 < length cs) × (r < length code.regions)
@@ -57,12 +58,12 @@ opened_as c =
     let o = opened_by c.args.region c.args.self.now.calls c.args.self.now.text.items in
     let new = c.store_cells.new.store in
     let made : List ℤ → RegionState → Machine = λ st z. record m { store = st; within = Some z } in
-    let carried = c.carried.ensures ∙ ap (λ (g : RegionView). g.carried) (sym (region_is code c.args.region c.region_at.result.now c.region_at.ensures)) in
+    let carried = c.carried.ensures ∙ ap (λ (g : RegionView). g.carried) (sym (the_region code c.args.region c.region_at.result.now c.region_at.ensures)) in
     let store : new ≡ into_cells code.globals (region_of code c.args.region).carried o.words m.store =
       c.store_cells.ensures ∙ same_cells _ _ _ _ _ _ _ _ c.globals-globals.ensures carried c.privates.ensures c.deref_mut.ensures.value in
     let same = same_opened c.args.region c.below.result c.calls.result c.len.result c.privates.result.now c.args.self.now.calls c.args.self.now.text.items c.below.ensures c.calls.ensures.calls c.privates.ensures (omega (arith, c.len.ensures)) in
     let len : length m.store ≡ vec_len c.args.self.now.store = omega (arith, c.deref_mut.ensures.len, ap length c.deref_mut.ensures.value) in
-    let long : length new ≡ vec_len c.args.self.now.store = ap length store ∙ length-into_cells code.globals (region_of code c.args.region).carried o.words m.store ∙ len in
+    let long : length new ≡ vec_len c.args.self.now.store = ap length store ∙ length-into code.globals (region_of code c.args.region).carried o.words m.store ∙ len in
     ap (λ st. made st (running c.open.new.self st None)) (with_items_is c.args.self.now.store new long) ∙ ap (made new) (c.open.ensures.same new) ∙ ap (λ o'. made new (region_opening code o' new)) same ∙ ap (λ st. made st (region_opening code o st)) store
 
 pub returns-clause-opened : goal.returns-clause-opened
@@ -75,7 +76,7 @@ returns-clause-well c =
     let o = opened_by c.args.region c.args.self.now.calls c.args.self.now.text.items in
     let carried = (region_of code c.args.region).carried in
     let store = into_cells code.globals carried o.words m.store in
-    let long : length store ≡ store_words code = length-into_cells code.globals carried o.words m.store ∙ omega (arith, c.deref_mut.ensures.len, ap length c.deref_mut.ensures.value, c.requires.store) in
+    let long : length store ≡ store_words code = length-into code.globals carried o.words m.store ∙ omega (arith, c.deref_mut.ensures.len, ap length c.deref_mut.ensures.value, c.requires.store) in
     let some = some_calls _ _ _ c.requires.waits.calls in
     let short : length m.text ≤ TEXT_LIMIT = omega (arith, c.len.ensures, c.requires.text) in
     let is : IsOpened code o = record { region = some.1; below = omega (arith, some.0, c.requires.waits.deep); words = words_long _ _ _ c.requires.waits.calls; printed = short } in
