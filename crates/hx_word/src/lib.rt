@@ -9,3 +9,6 @@ pub mod opening;
 pub mod plain;
 pub mod state;
 pub mod text;
+
+#[cfg(test)]
+mod tests;
