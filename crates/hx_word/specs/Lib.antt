@@ -3,3 +3,4 @@ pub mod Carry
 pub mod Running
 pub mod Plain
 pub mod Ran
+pub mod Entry

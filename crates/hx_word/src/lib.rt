@@ -3,6 +3,7 @@
 #![tactic(auto)]
 
 pub mod carry;
+pub mod entry;
 pub mod iterations;
 pub mod opened;
 pub mod opening;
