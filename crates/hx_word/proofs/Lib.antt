@@ -6,3 +6,4 @@ pub mod Behind
 pub mod Inside
 pub mod Advance
 pub mod First
+pub mod Entries

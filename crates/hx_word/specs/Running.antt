@@ -31,3 +31,19 @@ pub record RunsWell (code : CodeView) (z : RegionState) : Type 0 where
 -- the region ends with the last of so many words, and not before
 abbrev pub BeforeLast : CodeView → ℕ → RegionState → Type 0
 BeforeLast code n z = (k : ℕ) × (n ≡ suc k) × ((region_after code k z).exit ≡ None)
+
+-- ---- a region by itself
+
+-- a region and its code, and how many private words its entry had
+pub record RunView : Type 0 where
+  pub code : CodeView
+  pub state : RegionState
+  pub locals : ℕ
+
+-- what is known of a region that goes on or has ended: its room, and that its store and its text fit
+pub record KeepsRegion (code : CodeView) (z : RegionState) (reserved count : ℕ) : Type 0 where
+  pub opened : IsOpened code z.opened
+  pub store : length z.store ≡ store_words code
+  pub goes : z.exit ≡ None → RunsWell code z
+  pub room : TEXT_LIMIT ≤ reserved
+  pub locals : count ≤ PRIVATE_LIMIT

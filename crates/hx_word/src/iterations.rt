@@ -1,6 +1,6 @@
 // The iterations of a region, one after another.
 
-ghost use Rattle.std.specs.Prelude.{◌≡◌, ◌≢◌, ◌+◌, ◌≤◌, ℕ, ℤ, List, suc, Some, None, length, vec_len, vec_capacity};
+ghost use Rattle.std.specs.Prelude.{◌≡◌, ◌≢◌, ◌+◌, ◌≤◌, ℕ, ℤ, List, suc, Some, None, IfOk, length, vec_len, vec_capacity};
 ghost use Rattle.hx_code.specs.Region.{region_after, region_opening, opening};
 ghost use Rattle.hx_word.specs.Opening.{opened_of};
 ghost use Rattle.hx_word.specs.Running.{running, IsOpened, RunsWell, BeforeLast};
@@ -12,6 +12,7 @@ use crate::text::print;
 use hx_code::word::{Ask, Exit};
 use hx_tree::limits::TEXT_LIMIT;
 use hx_tree::outcome::{Fault, FaultKind};
+use std::alloc::{AllocError, Global};
 
 /// A region as it runs, but for its store: how it was opened, the number of its iteration and where
 /// that stands, the region's own text, and its whole turns.
@@ -32,6 +33,24 @@ pub struct Iterated {
 }
 
 impl Iterations {
+    /// Room for a region that is still to open.
+    pub fn new(alloc: Global, code: &Code) -> Result<Iterations, AllocError>
+        ensures { IfOk result (λ i. TEXT_LIMIT ≤ vec_capacity i.text) }
+    {
+        Ok(Iterations {
+            opened: Opened {
+                region: 0,
+                below: 0,
+                words: [0; 64],
+                printed: 0,
+            },
+            number: 0,
+            local: Local::new(alloc, code)?,
+            text: Vec::with_capacity(alloc, TEXT_LIMIT)?,
+            turns: 0,
+        })
+    }
+
     // Iteration j begins.
     fn begin(&mut self, code: &Code, j: u64)
         requires { IsOpened code.now (opened_of self.old.opened) }
@@ -53,6 +72,21 @@ impl Iterations {
         self.text.clear();
         self.turns = 0;
         self.begin(code, 0);
+    }
+
+    /// The region's text and its whole turns.
+    pub fn told(self) -> (Vec<u8>, u64)
+        ensures text { result.0.items ≡ self.text.items }
+        ensures turns { result.1 ≡ self.turns }
+    {
+        let Iterations {
+            opened: _,
+            number: _,
+            local: _,
+            text,
+            turns,
+        } = self;
+        (text, turns)
     }
 
     /// Does words of the region, up to so many or to its end.

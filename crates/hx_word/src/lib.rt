@@ -8,6 +8,7 @@ pub mod iterations;
 pub mod opened;
 pub mod opening;
 pub mod plain;
+pub mod region_run;
 pub mod state;
 pub mod text;
 

@@ -6,7 +6,6 @@ ghost use Rattle.hx_word.specs.Plain.{PlainView, one_store};
 ghost use Rattle.hx_word.specs.Ran.{RanFrom};
 
 use crate::iterations::Iterations;
-use crate::opened::Opened;
 use crate::opening::{opening_store, room_for};
 use crate::state::State;
 use hx_code::code::Code;
@@ -74,18 +73,7 @@ impl<'c> Plain<'c> {
             return Err(PlainError::InputUnfit);
         }
         let store = opening_store(alloc, code, input)?;
-        let iterations = Iterations {
-            opened: Opened {
-                region: 0,
-                below: 0,
-                words: [0; 64],
-                printed: 0,
-            },
-            number: 0,
-            local: Local::new(alloc, code)?,
-            text: Vec::with_capacity(alloc, TEXT_LIMIT)?,
-            turns: 0,
-        };
+        let iterations = Iterations::new(alloc, code)?;
         let state = State {
             calls: Local::new(alloc, code)?,
             store,

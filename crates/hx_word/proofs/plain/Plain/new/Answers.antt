@@ -9,5 +9,5 @@ pub invariant_of-result : goal.invariant_of-result
 invariant_of-result c =
     let code = c.args.code.now in
     let store = ap length c.in_ok-store.ensures ∙ length-opening code c.known.ensures c.args.input.now (omega (arith, c.room_for.ensures)) in
-    let runs = subst (RunsOutside code) (sym c.in_ok-new-2.ensures) (first_runs code c.known.ensures) in
-    (record { store = store; text = omega (arith, ap length c.in_ok-with_capacity-2.ensures.items); goes = runs }, record { text = omega (arith, c.in_ok-with_capacity-2.ensures.exact); own_text = omega (arith, c.in_ok-with_capacity.ensures.exact) })
+    let runs = subst (RunsOutside code) (sym c.in_ok-new.ensures.first) (first_runs code c.known.ensures) in
+    (record { store = store; text = omega (arith, ap length c.in_ok-with_capacity.ensures.items); goes = runs }, record { text = omega (arith, c.in_ok-with_capacity.ensures.exact); own_text = c.in_ok-iterations.ensures })
