@@ -1,0 +1,13 @@
+use Rattle.std.proofs.Common.{◌≡◌, ℕ, ℤ, List, ap, sym, subst, ◌∙◌, refl}
+use Rattle.hx_code.specs.declared.table.Carried.{Carried}
+use Rattle.hx_code.specs.declared.word.Exit.TheVariants.{Left, Returned, Faulted}
+use Rattle.hx_code.specs.Code.{RegionView, region_of}
+use Rattle.hx_code.specs.Region.{from_cells, words_after}
+use Rattle.hx_word.specs.Carry.{AreCarried}
+use Rattle.hx_word.specs.Opening.{opened_of}
+use Rattle.hx_word.proofs.Regions.{are_carried}
+use Rattle.hx_word.proofs.opened.words_behind.Goals as goal
+
+pub load_cells-requires-clause-words : goal.load_cells-requires-clause-words
+load_cells-requires-clause-words c =
+    subst AreCarried (sym c.carried.ensures) (are_carried c.args.code.now c.known.ensures c.args.opened.now.region c.region_at-region.result.now c.region_at-region.ensures)

@@ -1,0 +1,6 @@
+pub mod Opening
+pub mod Carry
+pub mod Running
+pub mod Plain
+pub mod Ran
+pub mod Entry

@@ -1,0 +1,108 @@
+// The plain machine of a code.
+
+ghost use Rattle.std.specs.Prelude.{◌≡◌, ◌↔◌, ◌<◌, length, IfOk, IsErrOf, OnOk};
+ghost use Rattle.hx_code.specs.Machine.{Machine, InputFits, room_for_input, opening_machine};
+ghost use Rattle.hx_word.specs.Plain.{PlainView, one_store};
+ghost use Rattle.hx_word.specs.Ran.{RanFrom};
+
+use crate::iterations::Iterations;
+use crate::opening::{opening_store, room_for};
+use crate::state::State;
+use hx_code::code::Code;
+use hx_code::local::Local;
+use hx_tree::limits::TEXT_LIMIT;
+use hx_tree::outcome::{Counts, Outcome};
+use std::alloc::{AllocError, Global};
+use std::marker::Model;
+
+/// A plain machine: a program's run over one store, word after word, the iterations of its regions one
+/// after another. Contracts see its code and its machine.
+#[derive(Drop)]
+pub struct Plain<'c> {
+    code: &'c Code,
+    state: State,
+}
+
+impl<'c> Model for Plain<'c> {
+    ghost use Rattle.std.specs.Prelude.{◌≡◌};
+    ghost use Rattle.hx_word.specs.Plain.{PlainView, StandsWell, HasRoom, machine_of};
+
+    ghost Value = { PlainView };
+
+    ghost view = { λ p. record { code = p.code.now; machine = machine_of p.state } };
+
+    ghost invariant = { λ p. StandsWell p.code.now (machine_of p.state) × HasRoom p.state };
+}
+
+/// Why there is no plain machine.
+#[derive(Clone, Copy, PartialEq, Eq, Debug)]
+pub enum PlainError {
+    /// 61: the input is longer than the array that it fills, or there is no such array.
+    InputUnfit,
+    /// 62: memory was refused.
+    OutOfMemory,
+}
+
+impl From<AllocError> for PlainError {
+    ghost use Rattle.std.specs.Prelude.{◌≡◌};
+    ghost use Rattle.hx_word.specs.declared.plain.PlainError.TheVariants.{OutOfMemory};
+
+    ghost from_gives = { λ _ e. e ≡ OutOfMemory };
+
+    fn from(_error: AllocError) -> PlainError {
+        PlainError::OutOfMemory
+    }
+}
+
+/// What a run of so many words comes to: its outcome and its counts, or more to be done.
+pub enum Ran<'c> {
+    Ended(Outcome, Counts),
+    More(Plain<'c>),
+}
+
+impl<'c> Plain<'c> {
+    /// The machine before its first word. It makes the room for all that comes.
+    /// Refusals: 61 exactly where the input is longer than its array, and 62 memory.
+    pub fn new(alloc: Global, code: &'c Code, input: &[i32]) -> Result<Plain<'c>, PlainError>
+        ensures opening { IfOk result (λ p. p ≡ record { code = code.now; machine = opening_machine code.now input.now }) }
+        ensures fits { OnOk result (InputFits code.now input.now) }
+        ensures unfit { IsErrOf result PlainError.InputUnfit ↔ (room_for_input code.now < length input.now) }
+    {
+        code.known();
+        if room_for(code) < input.len() {
+            return Err(PlainError::InputUnfit);
+        }
+        let store = opening_store(alloc, code, input)?;
+        let iterations = Iterations::new(alloc, code)?;
+        let state = State {
+            calls: Local::new(alloc, code)?,
+            store,
+            text: Vec::with_capacity(alloc, TEXT_LIMIT)?,
+            turns: 0,
+            regions: 0,
+            is_inside: false,
+            iterations,
+            end: None,
+        };
+        Ok(Plain { code, state })
+    }
+
+    /// Does so many words, or fewer to the end: the outcome and the counts where the run ends within
+    /// them, and else the machine after them. It takes no memory.
+    pub fn run(self, steps: u64) -> Ran<'c>
+        ensures { (m : Machine) → one_store m ≡ self.entry.machine → RanFrom self.entry.code m steps result }
+    {
+        let Plain { code, mut state } = self;
+        let mut left = steps;
+        while left > 0 && state.end.is_none() {
+            left -= state.advance(code, left).words;
+        }
+        match state.end {
+            None => Ran::More(Plain { code, state }),
+            Some(end) => {
+                let (outcome, counts) = state.outcome(code, end);
+                Ran::Ended(outcome, counts)
+            }
+        }
+    }
+}

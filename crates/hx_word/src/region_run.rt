@@ -1,0 +1,131 @@
+// A region by itself, from an entry.
+
+ghost use Rattle.std.specs.Prelude.{◌≡◌, IfOk, MatchResult, None, is_some, length};
+ghost use Rattle.hx_code.specs.Region.{region_opening, region_after};
+ghost use Rattle.hx_word.specs.Entry.{EntryFits, IsEndOf, opened_from};
+ghost use Rattle.hx_word.specs.Running.{RunView};
+
+use crate::entry::{Entry, RegionEnd, put_words};
+use crate::iterations::Iterations;
+use crate::opened::{Opened, words_behind};
+use hx_code::code::Code;
+use hx_code::word::Exit;
+use hx_tree::outcome::Counts;
+use std::alloc::{AllocError, Global};
+use std::marker::Model;
+
+/// The plain region from an entry: its iterations one after another. Contracts see its code, how far
+/// the region is, and how many private words the entry had.
+#[derive(Drop)]
+pub struct RegionRun<'c> {
+    code: &'c Code,
+    iterations: Iterations,
+    store: Vec<i32>,
+    locals: Vec<i32>,
+    exit: Option<Exit>,
+}
+
+impl<'c> Model for RegionRun<'c> {
+    ghost use Rattle.std.specs.Prelude.{length, vec_capacity};
+    ghost use Rattle.hx_word.specs.Running.{RunView, KeepsRegion, running};
+
+    ghost Value = { RunView };
+
+    ghost view = { λ r. record { code = r.code.now; state = running r.iterations r.store.items r.exit; locals = length r.locals.items } };
+
+    ghost invariant = { λ r. KeepsRegion r.code.now (running r.iterations r.store.items r.exit) (vec_capacity r.iterations.text) (length r.locals.items) };
+}
+
+impl<'c> RegionRun<'c> {
+    /// The region as its first iteration begins. It makes the room for all that comes.
+    pub fn new(
+        alloc: Global,
+        code: &'c Code,
+        region: u32,
+        entry: &Entry,
+    ) -> Result<RegionRun<'c>, AllocError>
+        requires { EntryFits code.now region entry.now }
+        ensures { IfOk result (λ run. run ≡ record { code = code.now; state = region_opening code.now (opened_from region entry.now) entry.now.store.items; locals = length entry.now.locals.items }) }
+    {
+        code.known();
+        let mut words = [0; 64];
+        put_words(&entry.locals, &mut words);
+        let opened = Opened {
+            region,
+            below: entry.depth - 1,
+            words,
+            printed: entry.text_len,
+        };
+        let store = Vec::from_slice(alloc, &entry.store)?;
+        let locals = Vec::from_slice(alloc, &entry.locals)?;
+        let mut iterations = Iterations::new(alloc, code)?;
+        iterations.open(code, opened);
+        Ok(RegionRun {
+            code,
+            iterations,
+            store,
+            locals,
+            exit: None,
+        })
+    }
+
+    /// Does so many words, or fewer to the region's end. True exactly where the region has ended. It
+    /// takes no memory.
+    pub fn run(&mut self, steps: u64) -> bool
+        ensures ran { self.new ≡ record self.old { state = region_after self.old.code steps self.old.state } }
+        ensures told { result ≡ is_some self.new.state.exit }
+    {
+        if self.exit.is_some() {
+            return true;
+        }
+        let code = self.code;
+        let done = self.iterations.run(code, &mut self.store, steps);
+        self.exit = done.exit;
+        self.exit.is_some()
+    }
+
+    /// The region's end, or exactly where it hasn't ended the region as it is. It takes no memory.
+    pub fn end(self) -> Result<RegionEnd, RegionRun<'c>>
+        ensures { MatchResult result (λ e. IsEndOf self.entry.code self.entry.state self.entry.locals e) (λ run. (run ≡ self.entry) × (self.entry.state.exit ≡ None)) }
+    {
+        let RegionRun {
+            code,
+            iterations,
+            store,
+            mut locals,
+            exit,
+        } = self;
+        match exit {
+            None => Err(RegionRun {
+                code,
+                iterations,
+                store,
+                locals,
+                exit: None,
+            }),
+            Some(exit) => {
+                let words = words_behind(code, &iterations.opened, exit, &store);
+                let count = locals.len();
+                locals.copy_from_slice(&words[..count]);
+                let (text, turns) = iterations.told();
+                let counts = Counts {
+                    regions: 1,
+                    turns,
+                    repeats: 0,
+                    violations: 0,
+                    restarts: 0,
+                    holds: 0,
+                    abandons: 0,
+                    discarded: 0,
+                };
+                Ok(RegionEnd {
+                    exit,
+                    store,
+                    locals,
+                    text,
+                    counts,
+                })
+            }
+        }
+    }
+}
