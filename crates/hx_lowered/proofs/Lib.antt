@@ -14,3 +14,4 @@ pub mod Carrying
 pub mod Accepted
 pub mod Resolving
 pub mod Lowered
+pub mod Spelled
