@@ -1,0 +1,4 @@
+pub mod Sources
+pub mod Fits
+pub mod Runs
+pub mod Headline

@@ -1,0 +1,21 @@
+use Rattle.std.proofs.Common.{rules, ◌≡◌, ◌∙◌, false, Ok, Err}
+use Rattle.hx_tree.specs.View.{program_of}
+use Rattle.hx_check.specs.Resolve.{resolve}
+use Rattle.hx_lowering.specs.Draft.{code_of}
+use Rattle.hx_lowering.specs.Serves.{serves}
+use Rattle.hx_lower.specs.declared.error.LowerError.TheVariants.{NotServed}
+use Rattle.hx_run.proofs.Sources.{checker_refuses}
+use Rattle.hx_run.proofs.Headline.{compiled}
+use Rattle.hx_run.proofs.source.compile.Goals as goal
+
+pub returns-in_err-checked-clause-refused : goal.returns-in_err-checked-clause-refused
+returns-in_err-checked-clause-refused c =
+    let refuses = checker_refuses c.args.source.now (program_of c.in_ok-program.program) c.in_err-checked.field-0.0 c.in_ok-program.ensures.spelled c.in_err-checked.ensures.refused in
+    search rules
+
+pub returns-clause-code : goal.returns-clause-code
+returns-clause-code c =
+    let served : serves (resolve (program_of c.in_ok-program.program)) ≡ false → ⊥ = λ e. search rules in
+    let code_is : c.in_ok-lower.field-0 ≡ code_of (resolve (program_of c.in_ok-program.program)) = search rules in
+    compiled c.args.source.now (program_of c.in_ok-program.program) c.in_ok-lower.field-0 c.in_ok-program.ensures.spelled c.in_ok-checked.ensures.accepted
+    c.code_behaves.ensures served code_is

@@ -1,0 +1,4 @@
+pub mod Sources
+pub mod Refusals
+pub mod Runs
+pub mod Headline

@@ -1,0 +1,32 @@
+-- What runs of code come to.
+use Rattle.std.specs.Prelude.{◌≡◌, ℕ, ℤ, List, None}
+use Rattle.hx_tree.specs.declared.outcome.Finish.{Finish}
+use Rattle.hx_code.specs.Code.{CodeView}
+use Rattle.hx_code.specs.Machine.{Machine, machine_after, opening_machine, EndsWith, counts_of, InputFits}
+use Rattle.hx_run.specs.declared.refusal.Refusal.{Refusal}
+use Rattle.hx_run.specs.declared.refusal.Refusal.TheVariants.{InputTooLong, Memory}
+use Rattle.hx_run.specs.declared.running.PlainRan.{PlainRan}
+use Rattle.hx_run.specs.declared.running.PlainRan.TheVariants.{Ended, More}
+
+-- the machine after so many words of a run
+abbrev pub after : CodeView → List ℤ → ℕ → Machine
+after code input n = machine_after code n (opening_machine code input)
+
+-- the machine has ended with this outcome and these counts
+abbrev pub EndsAs : CodeView → Machine → Finish → Type 0
+EndsAs code m f = EndsWith code m f.outcome × (f.counts ≡ counts_of m)
+
+-- after some number of words
+abbrev pub EndsSo : CodeView → List ℤ → Finish → Type 0
+EndsSo code input f = (n : ℕ) × EndsAs code (after code input n) f
+
+-- after this number of words, or it hasn't ended then
+abbrev pub PlainlySo : CodeView → List ℤ → ℕ → PlainRan → Type 0
+PlainlySo code input n (Ended f) = EndsAs code (after code input n) f
+PlainlySo code input n More = (after code input n).end ≡ None
+
+-- the input doesn't fit, or there was no memory, which says nothing
+abbrev pub RefusesInput : CodeView → List ℤ → Refusal → Type 0
+RefusesInput code input InputTooLong = InputFits code input → ⊥
+RefusesInput code input Memory = Unit {0}
+RefusesInput code input _ = ⊥

@@ -1,0 +1,15 @@
+//! Whole runs: from the bytes of a source and an input to a finish or a refusal. Everything is put together from the public
+//! contracts of the stages; `specs/Headline.antt` says what a finish promises.
+#![tactic(auto)]
+
+mod refusal;
+mod running;
+mod source;
+#[cfg(test)]
+mod tests;
+mod texts;
+
+pub use refusal::Refusal;
+pub use running::{PlainRan, are_in_range, run, run_plain};
+pub use source::compile;
+pub use texts::parse_input;

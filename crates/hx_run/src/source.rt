@@ -1,0 +1,43 @@
+// From the bytes of a source to its code.
+
+ghost use Rattle.std.specs.Prelude.{IfOk, IfErr};
+ghost use Rattle.hx_tree.specs.Grammar.{Spells};
+ghost use Rattle.hx_tree.specs.View.{program_of};
+ghost use Rattle.hx_run.specs.Headline.{IsCodeOf};
+ghost use Rattle.hx_run.specs.Refusals.{RefusesSource};
+ghost use Rattle.hx_run.specs.Sources.{IsSpelledAlone};
+
+use crate::refusal::Refusal;
+use hx_check::check::check;
+use hx_code::code::Code;
+use hx_lex::tokens;
+use hx_lower::lower;
+use hx_lowering::laws::code_behaves;
+use hx_parse::parse;
+use hx_tree::tree::Program;
+use std::alloc::Global;
+
+// The program that a source spells.
+fn read(alloc: Global, source: &[u8]) -> Result<Program, Refusal>
+    ensures spelled { IfOk result (λ p. IsSpelledAlone source.now (program_of p)) }
+    ensures refused { IfErr result (RefusesSource source.now) }
+{
+    let tokens = tokens(alloc, source)?;
+    Ok(parse(alloc, tokens.as_slice())?)
+}
+
+/// The code of a source.
+///
+/// An `Ok` is code that takes the inputs of the accepted program that the source spells, and ends, with its text, its globals,
+/// its end and its whole turns, exactly where the program does. Refusals: 1 to 5, 10, 11 and 20 to 26 mean that the source is
+/// that of no accepted program; 66 that its program has what isn't served yet; 6, 12, 27 and 30 that memory was refused, which
+/// says nothing of the source.
+pub fn compile(alloc: Global, source: &[u8]) -> Result<Code, Refusal>
+    ensures code { IfOk result (IsCodeOf source.now) }
+    ensures refused { IfErr result (RefusesSource source.now) }
+{
+    let program = read(alloc, source)?;
+    let checked = check(alloc, program)?;
+    code_behaves();
+    Ok(lower(alloc, &checked)?)
+}

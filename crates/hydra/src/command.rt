@@ -1,0 +1,157 @@
+// What each command does.
+
+ghost use Rattle.std.specs.Prelude.{◌≤◌};
+
+use crate::files::{read_input, read_source};
+use crate::request::{Paths, Request, read_words};
+use crate::status::{
+    Status, show_finish, show_text, tell_command_line, tell_memory, tell_not_ended,
+    tell_read_failed, tell_refusal,
+};
+use hx_lower::listing;
+use hx_run::{PlainRan, compile, parse_input, run, run_plain};
+use hx_tree::outcome::Settings;
+use std::convert::AsStr;
+use std::io::Write;
+use std::rt::Files;
+use std::sync::Wait;
+
+/// The words that an iteration may have read and written, in settings that no option names.
+const MARKS: u32 = 512;
+
+const BUFFER: u32 = 64;
+
+// The numbers of the input file, or none where none is named.
+fn input_of<R: Files + AllocGlobal, E: Write>(
+    rt: &R,
+    path: Option<&str>,
+    err: &mut E,
+) -> Result<Vec<i32>, Status> {
+    let Some(path) = path else {
+        return Ok(Vec::new(rt.alloc()));
+    };
+    let Ok(text) = read_input(rt, path) else {
+        return Err(tell_read_failed(err));
+    };
+    parse_input(rt.alloc(), text.as_slice()).map_err(|refusal| tell_refusal(err, &refusal))
+}
+
+// The input comes first, then the source.
+fn inputs_of<R: Files + AllocGlobal, E: Write>(
+    rt: &R,
+    paths: &Paths<'_>,
+    err: &mut E,
+) -> Result<(Vec<i32>, Vec<u8>), Status> {
+    let input = input_of(rt, paths.input, err)?;
+    match read_source(rt, paths.source) {
+        Ok(source) => Ok((input, source)),
+        Err(_) => Err(tell_read_failed(err)),
+    }
+}
+
+fn run_file<R: Files + AllocGlobal + Wait, W: Write, E: Write>(
+    rt: &R,
+    paths: &Paths<'_>,
+    workers: u32,
+    out: &mut W,
+    err: &mut E,
+) -> Result<Status, Status> {
+    let (input, source) = inputs_of(rt, paths, err)?;
+    let settings = Settings {
+        workers,
+        marks: MARKS,
+        buffer: BUFFER,
+    };
+    match run(
+        rt.alloc(),
+        rt,
+        source.as_slice(),
+        input.as_slice(),
+        settings,
+    ) {
+        Ok(finish) => Ok(show_finish(&finish, out, err)),
+        Err(refusal) => Err(tell_refusal(err, &refusal)),
+    }
+}
+
+fn plain_file<R: Files + AllocGlobal, W: Write, E: Write>(
+    rt: &R,
+    paths: &Paths<'_>,
+    steps: u64,
+    out: &mut W,
+    err: &mut E,
+) -> Result<Status, Status> {
+    let (input, source) = inputs_of(rt, paths, err)?;
+    match run_plain(rt.alloc(), source.as_slice(), input.as_slice(), steps) {
+        Ok(PlainRan::Ended(finish)) => Ok(show_finish(&finish, out, err)),
+        Ok(PlainRan::More) => Err(tell_not_ended(err, steps)),
+        Err(refusal) => Err(tell_refusal(err, &refusal)),
+    }
+}
+
+fn check_file<R: Files + AllocGlobal, W: Write, E: Write>(
+    rt: &R,
+    path: &str,
+    out: &mut W,
+    err: &mut E,
+) -> Status {
+    let Ok(source) = read_source(rt, path) else {
+        return tell_read_failed(err);
+    };
+    match compile(rt.alloc(), source.as_slice()) {
+        Ok(_code) => show_text(b"ok\n", out, err),
+        Err(refusal) => tell_refusal(err, &refusal),
+    }
+}
+
+fn list_file<R: Files + AllocGlobal, W: Write, E: Write>(
+    rt: &R,
+    path: &str,
+    out: &mut W,
+    err: &mut E,
+) -> Status {
+    let Ok(source) = read_source(rt, path) else {
+        return tell_read_failed(err);
+    };
+    let code = match compile(rt.alloc(), source.as_slice()) {
+        Ok(code) => code,
+        Err(refusal) => return tell_refusal(err, &refusal),
+    };
+    match listing(rt.alloc(), &code) {
+        Ok(text) => show_text(text.as_slice(), out, err),
+        Err(_) => tell_memory(err),
+    }
+}
+
+// The status of a command, whether it came to its end or stopped on the way.
+fn either(ended: Result<Status, Status>) -> Status {
+    match ended {
+        Ok(status) => status,
+        Err(status) => status,
+    }
+}
+
+/// Does what a command line asks for, and answers the status to exit with: 0 for a normal end, or where what was asked
+/// for was printed; 1 for a program's fault; 2 for a refusal, a run that isn't over, or a wrong command line; 3 for want of
+/// memory; 4 for a file or stream that failed.
+///
+/// Printed text, listings and help go to `out`. A fault or a refusal is told on `err` in one line, with its number and,
+/// where it has one, its place.
+pub fn command<R: Files + AllocGlobal + Wait, S: AsStr, W: Write, E: Write>(
+    rt: &R,
+    words: &[S],
+    out: &mut W,
+    err: &mut E,
+) -> u8
+    ensures { result ≤ 4 }
+{
+    let status = match read_words(rt.alloc(), words) {
+        Ok(Some(Request::Run(paths, workers))) => either(run_file(rt, &paths, workers, out, err)),
+        Ok(Some(Request::Plain(paths, steps))) => either(plain_file(rt, &paths, steps, out, err)),
+        Ok(Some(Request::Check(path))) => check_file(rt, path, out, err),
+        Ok(Some(Request::Words(path))) => list_file(rt, path, out, err),
+        Ok(None) => Status::Refused,
+        Err(error) => tell_command_line(&error, out, err),
+    };
+    status.code()
+}

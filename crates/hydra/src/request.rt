@@ -1,0 +1,135 @@
+// What a command line asks for.
+
+use clap::{Arg, ArgAction, ArgMatches, Command, Error, value_parser};
+use std::alloc::{AllocError, Global};
+use std::convert::AsStr;
+
+/// A program and its input, as files.
+#[derive(Clone, Copy, Debug)]
+pub struct Paths<'a> {
+    pub source: &'a str,
+    pub input: Option<&'a str>,
+}
+
+/// What is asked for.
+#[derive(Clone, Copy, Debug)]
+pub enum Request<'a> {
+    /// A run with so many workers.
+    Run(Paths<'a>, u32),
+    /// A run on one thread, of at most so many words.
+    Plain(Paths<'a>, u64),
+    /// Whether a source is accepted.
+    Check(&'a str),
+    /// The listing of a source's words.
+    Words(&'a str),
+}
+
+const DEFAULT_WORKERS: u32 = 2;
+
+const DEFAULT_STEPS: u64 = 1_000_000_000;
+
+fn command_on_file<'a>(
+    alloc: Global,
+    name: &'a str,
+    about: &'a str,
+) -> Result<Command<'a>, AllocError> {
+    let file = Arg::new(alloc, "FILE")
+        .help("The source of a program")
+        .required(true)
+        .action(ArgAction::Set);
+    Command::new(alloc, name).about(about).arg(file)
+}
+
+fn input_option<'a>(alloc: Global) -> Arg<'a> {
+    Arg::new(alloc, "input")
+        .long("input")
+        .value_name("FILE")
+        .help("Numbers for the global array 'in', with white space between them")
+        .action(ArgAction::Set)
+}
+
+fn number_option<'a>(alloc: Global, name: &'a str, default: &'a str, help: &'a str) -> Arg<'a> {
+    Arg::new(alloc, name)
+        .long(name)
+        .value_name("N")
+        .help(help)
+        .action(ArgAction::Set)
+        .default_value(default)
+}
+
+fn run_command<'a>(alloc: Global) -> Result<Command<'a>, AllocError> {
+    let workers = number_option(
+        alloc,
+        "workers",
+        "2",
+        "Workers for the marked loops, 1 or 2; their turns go one after another today",
+    );
+    command_on_file(alloc, "run", "Runs a program and prints what it prints")?
+        .arg(input_option(alloc))?
+        .arg(workers.value_parser(value_parser!(u32)))
+}
+
+fn plain_command<'a>(alloc: Global) -> Result<Command<'a>, AllocError> {
+    let steps = number_option(
+        alloc,
+        "steps",
+        "1000000000",
+        "How many words of the machine are run at the most",
+    );
+    command_on_file(alloc, "plain", "Runs a program word by word on one thread")?
+        .arg(input_option(alloc))?
+        .arg(steps.value_parser(value_parser!(u64)))
+}
+
+fn hydra_command<'a>(alloc: Global) -> Result<Command<'a>, AllocError> {
+    Command::new(alloc, "hydra")
+        .bin_name("hydra")?
+        .about(
+            "Compiles and runs programs of a small integer C whose loops 'pfor' and 'pwhile' may run speculatively, and always answers what one thread would",
+        )
+        .subcommand_required(true)
+        .arg_required_else_help(true)
+        .subcommand(run_command(alloc)?)?
+        .subcommand(plain_command(alloc)?)?
+        .subcommand(command_on_file(alloc, "check", "Says 'ok' where a program is accepted")?)?
+        .subcommand(command_on_file(
+            alloc,
+            "words",
+            "Lists the words that a program is compiled to",
+        )?)
+}
+
+fn paths_of<'a>(matches: &ArgMatches<'a>) -> Paths<'a> {
+    Paths {
+        source: source_of(matches),
+        input: matches.get_str("input"),
+    }
+}
+
+fn source_of<'a>(matches: &ArgMatches<'a>) -> &'a str {
+    matches.get_str("FILE").unwrap_or("")
+}
+
+/// Reads a command line, or tells what is wrong with it. `None` stands for a line that names no command.
+pub fn read_words<'a, S: AsStr>(
+    alloc: Global,
+    words: &'a [S],
+) -> Result<Option<Request<'a>>, Error> {
+    let matches = hydra_command(alloc)?.try_get_matches_from(words)?;
+    let Some((name, inner)) = matches.subcommand() else {
+        return Ok(None);
+    };
+    if name == "run" {
+        let workers = inner.get_one::<u32>("workers").unwrap_or(DEFAULT_WORKERS);
+        Ok(Some(Request::Run(paths_of(inner), workers)))
+    } else if name == "plain" {
+        let steps = inner.get_one::<u64>("steps").unwrap_or(DEFAULT_STEPS);
+        Ok(Some(Request::Plain(paths_of(inner), steps)))
+    } else if name == "check" {
+        Ok(Some(Request::Check(source_of(inner))))
+    } else if name == "words" {
+        Ok(Some(Request::Words(source_of(inner))))
+    } else {
+        Ok(None)
+    }
+}

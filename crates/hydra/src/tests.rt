@@ -1,0 +1,193 @@
+// Whole commands, on files that each test writes for itself.
+
+use crate::command::command;
+use std::io::Write;
+use std::test::Fail;
+use std::{fs, io};
+
+// What a command wrote, and its status.
+#[derive(Drop)]
+struct Shown {
+    out: Vec<u8>,
+    err: Vec<u8>,
+    status: u8,
+}
+
+fn shown(rt: &HostRuntime, words: &[&str]) -> Shown {
+    let mut out = Vec::new(rt.alloc());
+    let mut err = Vec::new(rt.alloc());
+    let status = command(rt, words, &mut out, &mut err);
+    Shown { out, err, status }
+}
+
+// A command on a file that has this source for as long as the command runs.
+fn on_source(rt: &HostRuntime, path: &str, source: &[u8], words: &[&str]) -> Result<Shown, Fail> {
+    fs::write(rt, path, source)?;
+    let found = shown(rt, words);
+    fs::remove_file(rt, path)?;
+    Ok(found)
+}
+
+fn expect(rt: &HostRuntime, found: &Shown, out: &[u8], err: &[u8], status: u8) {
+    assert_eq!(rt; found.out.as_slice(), out);
+    assert_eq!(rt; found.err.as_slice(), err);
+    assert_eq!(rt; found.status, status);
+}
+
+const COUNT: &[u8] = b"int c; int main(){ pwhile(c<3){ print(c); c=c+1; } }";
+
+const TWO_TURNS: &[u8] = b"int c; int main(){ pwhile(c<2){ c=c+1; } }";
+
+const PAST_THE_END: &[u8] =
+    b"int c; int a[4]; int main(){ pwhile(c<8){ a[c]=c+1; print(c); c=c+1; } }";
+
+const SUM: &[u8] =
+    b"int in[3]; int n_in; int s; int i; int main(){ pwhile(i<n_in){ s=s+in[i]; i=i+1; } print(s); return s; }";
+
+#[test]
+fn runs_programs(rt: HostRuntime) -> Result<(), Fail> {
+    let p = "hydra-test-runs.hc";
+    let found = on_source(&rt, p, COUNT, &["hydra", "run", p, "--workers", "2"])?;
+    expect(&rt, &found, b"0\n1\n2\n", b"", 0);
+    let found = on_source(&rt, p, COUNT, &["hydra", "plain", p])?;
+    expect(&rt, &found, b"0\n1\n2\n", b"", 0);
+    let found = on_source(&rt, p, PAST_THE_END, &["hydra", "run", p])?;
+    expect(&rt, &found, b"0\n1\n2\n3\n", b"hydra: fault 2 at 1:43\n", 1);
+    Ok(())
+}
+
+#[test]
+fn refuses_sources(rt: HostRuntime) -> Result<(), Fail> {
+    let p = "hydra-test-refuses.hc";
+    let found = on_source(&rt, p, b"int main(){ print(1) }", &["hydra", "run", p])?;
+    expect(&rt, &found, b"", b"hydra: refused 10 at 1:22\n", 2);
+    let found = on_source(&rt, p, b"int main(){ break; }", &["hydra", "check", p])?;
+    expect(&rt, &found, b"", b"hydra: refused 24 at 1:13\n", 2);
+    let found = on_source(&rt, p, b"", &["hydra", "words", p])?;
+    expect(&rt, &found, b"", b"hydra: refused 25\n", 2);
+    let found = on_source(&rt, p, COUNT, &["hydra", "run", p, "--workers", "0"])?;
+    expect(&rt, &found, b"", b"hydra: refused 60\n", 2);
+    let found = on_source(
+        &rt,
+        p,
+        b"int main(){ int x=1; print(x); }",
+        &["hydra", "run", p],
+    )?;
+    expect(&rt, &found, b"", b"hydra: refused 66\n", 2);
+    let found = on_source(&rt, p, COUNT, &["hydra", "check", p])?;
+    expect(&rt, &found, b"ok\n", b"", 0);
+    Ok(())
+}
+
+#[test]
+fn counts_steps(rt: HostRuntime) -> Result<(), Fail> {
+    let p = "hydra-test-steps.hc";
+    let found = on_source(
+        &rt,
+        p,
+        b"int main(){}",
+        &["hydra", "plain", p, "--steps", "1"],
+    )?;
+    expect(&rt, &found, b"", b"hydra: not ended after 1 steps\n", 2);
+    let found = on_source(
+        &rt,
+        p,
+        b"int main(){}",
+        &["hydra", "plain", p, "--steps", "2"],
+    )?;
+    expect(&rt, &found, b"", b"", 0);
+    let found = on_source(&rt, p, TWO_TURNS, &["hydra", "plain", p, "--steps", "25"])?;
+    expect(&rt, &found, b"", b"hydra: not ended after 25 steps\n", 2);
+    let found = on_source(&rt, p, TWO_TURNS, &["hydra", "plain", p, "--steps", "26"])?;
+    expect(&rt, &found, b"", b"", 0);
+    Ok(())
+}
+
+#[test]
+fn reads_input(rt: HostRuntime) -> Result<(), Fail> {
+    let p = "hydra-test-input.hc";
+    let i = "hydra-test-input.in";
+    let words = ["hydra", "run", p, "--input", i];
+    fs::write(&rt, i, b"5 -7")?;
+    let found = on_source(&rt, p, SUM, &words)?;
+    expect(&rt, &found, b"-2\n", b"", 0);
+    fs::write(&rt, i, b"1 2 3 4")?;
+    let found = on_source(&rt, p, SUM, &words)?;
+    expect(&rt, &found, b"", b"hydra: refused 61\n", 2);
+    fs::write(&rt, i, b"07")?;
+    let found = on_source(&rt, p, SUM, &words)?;
+    expect(&rt, &found, b"", b"hydra: refused 65\n", 2);
+    fs::remove_file(&rt, i)?;
+    let found = on_source(&rt, p, SUM, &words)?;
+    expect(&rt, &found, b"", b"hydra: read failed\n", 4);
+    Ok(())
+}
+
+#[test]
+fn lists_words(rt: HostRuntime) -> Result<(), Fail> {
+    let p = "hydra-test-words.hc";
+    let found = on_source(&rt, p, b"int main(){}", &["hydra", "words", p])?;
+    expect(
+        &rt,
+        &found,
+        b"globals 0\nfunc main 0 0 0\n0 const 0\n1 ret\n",
+        b"",
+        0,
+    );
+    let found = on_source(&rt, p, TWO_TURNS, &["hydra", "words", p])?;
+    let wanted = b"globals 1\nfunc main 0 0 0\nregion 1 20 carried copied\n\
+0 enter 0 11\n1 glob 0\n2 const 2\n3 lt\n4 jfalse 10\n5 glob 0\n6 const 1\n7 add\n8 setglob 0\n9 turn\n10 leave\n\
+11 glob 0\n12 const 2\n13 lt\n14 jfalse 20\n15 glob 0\n16 const 1\n17 add\n18 setglob 0\n19 jump 11\n20 const 0\n21 ret\n";
+    expect(&rt, &found, wanted, b"", 0);
+    Ok(())
+}
+
+#[test]
+fn reads_command_lines(rt: HostRuntime) {
+    let help = shown(&rt, &["hydra", "--help"]);
+    assert_eq!(&rt; help.status, 0);
+    assert!(&rt; help.out.len() > 0 && help.err.is_empty());
+    let help = shown(&rt, &["hydra", "run", "--help"]);
+    assert_eq!(&rt; help.status, 0);
+    let absent = shown(&rt, &["hydra", "run", "no-such-file", "--workers", "0"]);
+    expect(&rt, &absent, b"", b"hydra: read failed\n", 4);
+    let wrong: [&[&str]; 6] = [
+        &["hydra"],
+        &["hydra", "run"],
+        &["hydra", "leap", "x"],
+        &["hydra", "run", "x", "--workers", "two"],
+        &["hydra", "run", "x", "--workers", "4294967296"],
+        &["hydra", "check", "x", "--steps", "1"],
+    ];
+    for words in wrong {
+        let found = shown(&rt, words);
+        assert_eq!(&rt; found.status, 2);
+        assert!(&rt; found.out.is_empty() && found.err.len() > 0);
+    }
+}
+
+// An output that takes nothing.
+#[derive(Drop)]
+struct Closed;
+
+impl Write for Closed {
+    fn write(&mut self, _bytes: &[u8]) -> io::Result<usize> {
+        Err(io::Error::from(io::ErrorKind::BrokenPipe))
+    }
+
+    fn flush(&mut self) -> io::Result<()> {
+        Ok(())
+    }
+}
+
+#[test]
+fn tells_of_a_closed_output(rt: HostRuntime) -> Result<(), Fail> {
+    let p = "hydra-test-closed.hc";
+    fs::write(&rt, p, COUNT)?;
+    let mut err = Vec::new(rt.alloc());
+    let status = command(&rt, &["hydra", "run", p], &mut Closed, &mut err);
+    fs::remove_file(&rt, p)?;
+    assert_eq!(&rt; status, 4);
+    assert_eq!(&rt; err.as_slice(), b"hydra: write failed\n".as_slice());
+    Ok(())
+}
