@@ -176,7 +176,7 @@ fn counts_words(rt: HostRuntime) {
     let two_turns = b"int c; int main(){ pwhile(c<2){ c=c+1; } }".as_slice();
     assert!(&rt; ended(run_plain(alloc, two_turns, &[], 25)).is_none());
     match ended(run_plain(alloc, two_turns, &[], 26)) {
-        Some(finish) => assert_eq!(&rt; finish.outcome.globals.as_slice(), &[2].as_slice()),
+        Some(finish) => assert_eq!(&rt; finish.outcome.globals.as_slice(), [2].as_slice()),
         None => assert!(&rt; false),
     }
 }
@@ -184,7 +184,7 @@ fn counts_words(rt: HostRuntime) {
 #[test]
 fn reads_input_texts(rt: HostRuntime) {
     match parse_input(rt.alloc(), b"5 -7") {
-        Ok(numbers) => assert_eq!(&rt; numbers.as_slice(), &[5, -7].as_slice()),
+        Ok(numbers) => assert_eq!(&rt; numbers.as_slice(), [5, -7].as_slice()),
         Err(_) => assert!(&rt; false),
     }
     match parse_input(rt.alloc(), b"07") {

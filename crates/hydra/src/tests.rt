@@ -2,6 +2,9 @@
 
 use crate::command::command;
 use std::io::Write;
+use std::process::Abort;
+use std::rt::Files;
+use std::sync::Wait;
 use std::test::Fail;
 use std::{fs, io};
 
@@ -13,7 +16,7 @@ struct Shown {
     status: u8,
 }
 
-fn shown(rt: &HostRuntime, words: &[&str]) -> Shown {
+fn shown<R: Files + AllocGlobal + Wait>(rt: &R, words: &[&str]) -> Shown {
     let mut out = Vec::new(rt.alloc());
     let mut err = Vec::new(rt.alloc());
     let status = command(rt, words, &mut out, &mut err);
@@ -21,14 +24,19 @@ fn shown(rt: &HostRuntime, words: &[&str]) -> Shown {
 }
 
 // A command on a file that has this source for as long as the command runs.
-fn on_source(rt: &HostRuntime, path: &str, source: &[u8], words: &[&str]) -> Result<Shown, Fail> {
+fn on_source<R: Files + AllocGlobal + Wait>(
+    rt: &R,
+    path: &str,
+    source: &[u8],
+    words: &[&str],
+) -> Result<Shown, Fail> {
     fs::write(rt, path, source)?;
-    let found = shown(rt, words);
+    let found = done_by(rt, words);
     fs::remove_file(rt, path)?;
     Ok(found)
 }
 
-fn expect(rt: &HostRuntime, found: &Shown, out: &[u8], err: &[u8], status: u8) {
+fn expect(rt: &impl Abort, found: &Shown, out: &[u8], err: &[u8], status: u8) {
     assert_eq!(rt; found.out.as_slice(), out);
     assert_eq!(rt; found.err.as_slice(), err);
     assert_eq!(rt; found.status, status);
@@ -144,12 +152,12 @@ fn lists_words(rt: HostRuntime) -> Result<(), Fail> {
 
 #[test]
 fn reads_command_lines(rt: HostRuntime) {
-    let help = shown(&rt, &["hydra", "--help"]);
+    let help = done_by(&rt, &["hydra", "--help"]);
     assert_eq!(&rt; help.status, 0);
     assert!(&rt; help.out.len() > 0 && help.err.is_empty());
-    let help = shown(&rt, &["hydra", "run", "--help"]);
+    let help = done_by(&rt, &["hydra", "run", "--help"]);
     assert_eq!(&rt; help.status, 0);
-    let absent = shown(&rt, &["hydra", "run", "no-such-file", "--workers", "0"]);
+    let absent = done_by(&rt, &["hydra", "run", "no-such-file", "--workers", "0"]);
     expect(&rt, &absent, b"", b"hydra: read failed\n", 4);
     let wrong: [&[&str]; 6] = [
         &["hydra"],
@@ -160,7 +168,7 @@ fn reads_command_lines(rt: HostRuntime) {
         &["hydra", "check", "x", "--steps", "1"],
     ];
     for words in wrong {
-        let found = shown(&rt, words);
+        let found = done_by(&rt, words);
         assert_eq!(&rt; found.status, 2);
         assert!(&rt; found.out.is_empty() && found.err.len() > 0);
     }
