@@ -1,10 +1,11 @@
 // The plain machine of a code.
 
-ghost use Rattle.std.specs.Prelude.{◌≡◌, ◌↔◌, ◌<◌, length, IfOk, IsErrOf, OnOk};
+ghost use Rattle.std.specs.Prelude.{◌≡◌, ◌↔◌, ◌<◌, length, IfOk, IsErrOf, OnOk, true, None};
 ghost use Rattle.hx_code.specs.Machine.{Machine, InputFits, room_for_input, opening_machine, resumed};
-ghost use Rattle.hx_word.specs.Plain.{PlainView, OpenView, one_store, whole};
+ghost use Rattle.hx_word.specs.Plain.{PlainView, OpenView, StandsWell, machine_of, one_store, whole};
+ghost use Rattle.hx_word.specs.Opening.{opened_of};
 ghost use Rattle.hx_word.specs.Entry.{EntryFits, EndFits, IsEntryOf, result_from};
-ghost use Rattle.hx_word.specs.Ran.{RanFrom, PausedFrom};
+ghost use Rattle.hx_word.specs.Ran.{RanFrom, PausedFrom, ReachedFrom};
 
 use crate::entry::{Entry, RegionEnd, entry_of};
 use crate::iterations::Iterations;
@@ -111,14 +112,7 @@ impl<'c> Open<'c> {
         ensures entry { IfOk result (λ e. IsEntryOf self.now.code self.now.region.opened self.now.region.store e) }
         ensures fits { IfOk result (λ e. EntryFits self.now.code self.now.region.opened.region e) }
     {
-        let code = self.code;
-        code.known();
-        entry_of(
-            alloc,
-            code,
-            &self.state.iterations.opened,
-            &self.state.store,
-        )
+        region_entry(alloc, self.code, &self.state)
     }
 
     /// The machine behind the region, which ended so. It takes no memory.
@@ -197,4 +191,44 @@ impl<'c> Plain<'c> {
             }
         }
     }
+
+    /// Looks for the n-th region that opens from here on, counted from 1, within so many words: its
+    /// number and its entry, or whether the run ends before.
+    pub fn entry_at(self, alloc: Global, n: u64, steps: u64) -> Result<Reached, AllocError>
+        requires { 0 < n }
+        ensures { IfOk result (λ r. (m : Machine) → one_store m ≡ self.entry.machine → ReachedFrom self.entry.code m n steps r) }
+    {
+        let Plain { code, mut state } = self;
+        code.known();
+        let mut left = steps;
+        let mut before = n - 1;
+        while left > 0 && state.end.is_none() {
+            let done = state.advance(code, left);
+            left -= done.words;
+            if done.opened {
+                if before == 0 {
+                    let region = state.iterations.opened.region;
+                    let entry = region_entry(alloc, code, &state)?;
+                    return Ok(Reached::At(region, entry));
+                }
+                before -= 1;
+            }
+        }
+        match state.end {
+            None => Ok(Reached::More),
+            Some(_) => Ok(Reached::Ended),
+        }
+    }
+}
+
+// The entry of the region that runs.
+fn region_entry(alloc: Global, code: &Code, state: &State) -> Result<Entry, AllocError>
+    requires inside { state.now.is_inside ≡ true }
+    requires goes { state.now.end ≡ None }
+    requires well { StandsWell code.now (machine_of state.now) }
+    ensures entry { IfOk result (λ e. IsEntryOf code.now (opened_of state.now.iterations.opened) state.now.store.items e) }
+    ensures fits { IfOk result (λ e. EntryFits code.now state.now.iterations.opened.region e) }
+{
+    code.known();
+    entry_of(alloc, code, &state.iterations.opened, &state.store)
 }
