@@ -266,6 +266,7 @@ fn the_rules_refuse_each_flaw(rt: HostRuntime) -> Result<(), Fail> {
 fn code_shows_its_parts(rt: HostRuntime) -> Result<(), Fail> {
     let code = code_of(rt.alloc(), Flaw::None)?.ok_or("valid")?;
     assert_eq!(rt; code.words().len(), 22);
+    assert_eq!(rt; code.spots().len(), 22);
     assert_eq!(rt; code.functions().len(), 1);
     assert_eq!(rt; code.regions().len(), 1);
     assert_eq!(rt; code.globals(), 1);
