@@ -59,6 +59,12 @@ pub record IsEndOf (code : CodeView) (z : RegionState) (n : ℕ) (e : RegionEnd)
   pub text : e.text.items ≡ z.text
   pub counts : e.counts ≡ region_counts z.turns
 
+-- it has the lengths of its entry, and its text fits behind what was printed before
+pub record EndLasts (code : CodeView) (z : RegionState) (n : ℕ) (e : RegionEnd) : Type 0 where
+  pub store : length e.store.items ≡ store_words code
+  pub locals : length e.locals.items ≡ n
+  pub text : z.opened.printed + length e.text.items ≤ TEXT_LIMIT
+
 -- an end that fits the region that was opened so, behind this text
 pub record EndFits (code : CodeView) (o : Opened) (printed : List ℕ) (e : RegionEnd) : Type 0 where
   pub store : length e.store.items ≡ store_words code

@@ -45,5 +45,6 @@ pub record KeepsRegion (code : CodeView) (z : RegionState) (reserved count : ℕ
   pub opened : IsOpened code z.opened
   pub store : length z.store ≡ store_words code
   pub goes : z.exit ≡ None → RunsWell code z
+  pub text : z.opened.printed + length z.text ≤ TEXT_LIMIT
   pub room : TEXT_LIMIT ≤ reserved
   pub locals : count ≤ PRIVATE_LIMIT

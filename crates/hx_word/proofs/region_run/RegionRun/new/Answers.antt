@@ -1,4 +1,4 @@
-use Rattle.std.proofs.Common.{arith, ◌≡◌, ◌-◌, ◌≤◌, ℕ, ℤ, List, length, None, refl, ap, sym, subst, ◌∙◌, vec_capacity}
+use Rattle.std.proofs.Common.{arith, ◌≡◌, ◌+◌, ◌-◌, ◌≤◌, ℕ, ℤ, List, length, None, refl, ap, sym, subst, ◌∙◌, vec_capacity}
 use Rattle.hx_tree.specs.declared.limits.TheConstants.{TEXT_LIMIT, PRIVATE_LIMIT}
 use Rattle.hx_code.specs.Code.{CodeView, store_words}
 use Rattle.hx_code.specs.Region.{Opened, RegionState, region_opening}
@@ -28,6 +28,7 @@ invariant_of-result c =
       opened = subst (λ (z : RegionState). IsOpened code z.opened) (sym same) is;
       store = long;
       goes = λ _. subst (RunsWell code) (sym same) runs;
+      text = subst (λ (z : RegionState). z.opened.printed + length z.text ≤ TEXT_LIMIT) (sym same) (omega (arith, c.requires.text));
       room = omega (arith, c.open.ensures.room, c.in_ok-iterations.ensures);
       locals = omega (arith, few, ap length c.in_ok-locals.ensures.items, ap length c.deref-3.ensures.value, c.requires.locals);
     }
