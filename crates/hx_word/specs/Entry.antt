@@ -74,5 +74,10 @@ pub record EndFits (code : CodeView) (o : Opened) (printed : List ℕ) (e : Regi
 -- what an end says of the region that was opened so: private words that it doesn't name stay
 abbrev pub result_from : Opened → RegionEnd → RegionResult
 result_from o e = record {
-  exit = e.exit; store = e.store.items; words = e.locals.items ++ drop (length e.locals.items) o.words; text = e.text.items;
-  regions = e.counts.regions; turns = e.counts.turns }
+  exit = e.exit;
+  store = e.store.items;
+  words = e.locals.items ++ drop (length e.locals.items) o.words;
+  text = e.text.items;
+  regions = e.counts.regions;
+  turns = e.counts.turns;
+}

@@ -25,7 +25,11 @@ const ADD: Word = Word::Binary(Operator::Add, NOWHERE);
 fn spots(alloc: Global, heights: &[u32], from: usize, to: usize) -> Result<Vec<Spot>, Fail> {
     let mut spots = Vec::new(alloc);
     for (place, height) in heights.iter().enumerate() {
-        let region = if from <= place && place < to { Some(0) } else { None };
+        let region = if from <= place && place < to {
+            Some(0)
+        } else {
+            None
+        };
         spots.push(Spot {
             function: 0,
             region,
@@ -240,10 +244,7 @@ fn faults_have_their_places(rt: HostRuntime) -> Result<(), Fail> {
     let (outcome, _) = ended(rt.alloc(), &code, &[], 3)?.ok_or("not ended")?;
     assert_eq!(rt; outcome.end, fault(FaultKind::ZeroDivisor, 20));
     for index in [4, -1] {
-        let array = Array {
-            base: 0,
-            length: 4,
-        };
+        let array = Array { base: 0, length: 4 };
         let element = Word::Elem(array, Pos { line: 1, col: 31 });
         let words = [Word::Const(index), element, Word::Ret];
         let places = spots(rt.alloc(), &[0, 1, 1], 0, 0)?;
@@ -296,12 +297,7 @@ fn an_endless_print_fills_the_text(rt: HostRuntime) -> Result<(), Fail> {
     ];
     let heights = [0, 0, 1, 0, 1, 0, 0, 0, 1, 0, 1, 0, 0, 1];
     let mut regions = Vec::new(rt.alloc());
-    regions.push(Region::new(
-        1,
-        12,
-        Vec::new(rt.alloc()),
-        Vec::new(rt.alloc()),
-    ))?;
+    regions.push(Region::new(1, 12, Vec::new(rt.alloc()), Vec::new(rt.alloc())))?;
     let places = spots(rt.alloc(), &heights, 1, 7)?;
     let code = main_alone(rt.alloc(), &words, places, regions, &[])?;
     let (outcome, counts) = ended(rt.alloc(), &code, &[], 10000000)?.ok_or("not ended")?;
@@ -383,18 +379,8 @@ fn no_region_opens_inside_a_region(rt: HostRuntime) -> Result<(), Fail> {
         (1, None, 1),
     ];
     let mut regions = Vec::new(rt.alloc());
-    regions.push(Region::new(
-        6,
-        8,
-        Vec::new(rt.alloc()),
-        Vec::new(rt.alloc()),
-    ))?;
-    regions.push(Region::new(
-        1,
-        3,
-        Vec::new(rt.alloc()),
-        Vec::new(rt.alloc()),
-    ))?;
+    regions.push(Region::new(6, 8, Vec::new(rt.alloc()), Vec::new(rt.alloc())))?;
+    regions.push(Region::new(1, 3, Vec::new(rt.alloc()), Vec::new(rt.alloc())))?;
     let code = main_and_f(rt.alloc(), &words, &places, (5, 0), regions)?;
     let (outcome, counts) = ended(rt.alloc(), &code, &[], 100)?.ok_or("not ended")?;
     assert_eq!(rt; outcome.end, End::Normal(5));

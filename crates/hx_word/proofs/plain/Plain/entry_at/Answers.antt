@@ -75,14 +75,14 @@ returns-then-before-eq0 c =
     let within = runs_there (machine_after code (suc k) m) (machine_of s) z there (ap (λ (x : Machine). x.within) (in_is s (e.inside c.if-done.true))) in
     let runs : RunsRegion code (machine_after code (suc k) m) s.iterations.opened.region c.in_ok-entry.entry = record { region = z; within = within; number = refl; entry = c.in_ok-entry.ensures.entry; fits = c.in_ok-entry.ensures.fits } in
     subst (λ x. (k : ℕ) × (k < c.args.steps) × (openings x k m + 1 ≡ c.args.n) × (opens_next x (machine_after x k m) ≡ true) × RunsRegion x (machine_after x (suc k) m) s.iterations.opened.region c.in_ok-entry.entry) same
-      (k, lt, number, opens_for code k m start first o.3, runs)
+    (k, lt, number, opens_for code k m start first o.3, runs)
 
 pub returns-in-None : goal.returns-in-None
 returns-in-None c =
     λ m is.
     let i = c.loop-left.invariant in
     let none : c.loop-left.left ≡ 0 = elim c.loop-left-test.branch [
-      then-loop-left-test+else-is_none w ↦ let no : true ≡ false = sym w.if-is_none.ensures ∙ ap (λ o. is_some o) c.in-None.is in absurd cc
+      | then-loop-left-test+else-is_none w ↦ let no : true ≡ false = sym w.if-is_none.ensures ∙ ap (λ o. is_some o) c.in-None.is in absurd cc
       | else-loop-left-test w ↦ omega arith
     ] in
     let code = c.self.inside.code.now in

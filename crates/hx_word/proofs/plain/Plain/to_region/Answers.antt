@@ -53,4 +53,4 @@ returns-in-Some c =
     let o = c.outcome-outcome.ensures in
     let shown : EndsWith code y c.outcome-outcome.result.0 = record { text = o.text; globals = o.globals; end = c.in-Some.is ∙ ap (λ x. Some x) (sym o.end) } in
     subst (λ x. Quiet x c.args.steps m × EndsWith x (machine_after x c.args.steps m) c.outcome-outcome.result.0 × (c.outcome-outcome.result.1 ≡ counts_of (machine_after x c.args.steps m))) same
-      (none, subst (λ x. EndsWith code x c.outcome-outcome.result.0) (sym at_end) shown, o.counts ∙ ap counts_of (sym at_end))
+    (none, subst (λ x. EndsWith code x c.outcome-outcome.result.0) (sym at_end) shown, o.counts ∙ ap counts_of (sym at_end))

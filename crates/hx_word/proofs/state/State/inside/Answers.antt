@@ -97,7 +97,7 @@ ended code s i st st0 n o e is same ran before inside going =
     let b = subst (λ x. BeforeLast code n (running s.iterations x None)) same (before (is_some o e is)) in
     let k = b.0 in
     let ran' : region_after code (suc k) z ≡ running i st (Some e) =
-      subst (λ j. region_after code j z ≡ running i st (Some e)) b.1 (subst (λ x. region_after code n (running s.iterations x None) ≡ running i st o) same ran ∙ ap (running i st) is) in
+    subst (λ j. region_after code j z ≡ running i st (Some e)) b.1 (subst (λ x. region_after code n (running s.iterations x None) ≡ running i st o) same ran ∙ ap (running i st) is) in
     let over = ap (λ (y : RegionState). y.exit) ran' in (
       ap (machine_after code n) (in_is s inside) ∙ ap (λ j. machine_after code j (in_region m z)) b.1 ∙ inside_ends code k m z e going b.2 over ∙ ap (λ (y : RegionState). resumed code y.opened.region (result_of code e y) m) ran',
       subst (Quiet code n) (sym (in_is s inside)) (subst (λ j. Quiet code j (in_region m z)) (sym b.1) (quiet_next code k m z going b.2)),
