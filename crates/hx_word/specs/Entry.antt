@@ -6,7 +6,6 @@ use Rattle.hx_code.specs.declared.table.Spot.{Spot}
 use Rattle.hx_code.specs.Code.{CodeView, region_of, store_words}
 use Rattle.hx_code.specs.Valid.{privates_of}
 use Rattle.hx_code.specs.Region.{Opened, RegionState, RegionResult, words_after}
-use Rattle.hx_code.specs.Machine.{Machine}
 use Rattle.hx_word.specs.declared.entry.Entry.{Entry}
 use Rattle.hx_word.specs.declared.entry.RegionEnd.{RegionEnd}
 

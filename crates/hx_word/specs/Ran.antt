@@ -10,7 +10,7 @@ use Rattle.hx_word.specs.declared.plain.Paused.TheVariants.{At, Ended as EndedBe
 use Rattle.hx_word.specs.declared.plain.Reached.{Reached}
 use Rattle.hx_word.specs.declared.plain.Reached.TheVariants.{At as AtRegion, Ended as NeverReached, More as NotYet}
 use Rattle.hx_word.specs.declared.entry.Entry.{Entry}
-use Rattle.hx_word.specs.Plain.{PlainView, OpenView, whole, one_store, opens_next, openings, Quiet}
+use Rattle.hx_word.specs.Plain.{whole, one_store, opens_next, openings, Quiet}
 use Rattle.hx_word.specs.Entry.{EntryFits, IsEntryOf}
 
 -- what n words from m come to: the end with its outcome and counts, or else the machine after them

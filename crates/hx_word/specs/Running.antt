@@ -1,5 +1,5 @@
 -- What is kept of a region that runs, and what is known of it in valid code.
-use Rattle.std.specs.Prelude.{◌≡◌, ℕ, zero, suc, ◌+◌, ◌<◌, ◌≤◌, ℤ, List, length, Option, Some, None}
+use Rattle.std.specs.Prelude.{◌≡◌, ℕ, suc, ◌+◌, ◌<◌, ◌≤◌, ℤ, List, length, Option, Some, None}
 use Rattle.hx_tree.specs.declared.limits.TheConstants.{CALL_LIMIT, PRIVATE_LIMIT, TEXT_LIMIT}
 use Rattle.hx_code.specs.declared.word.Exit.{Exit}
 use Rattle.hx_word.specs.declared.iterations.Iterations.{Iterations}

@@ -1,4 +1,4 @@
-use Rattle.std.proofs.Common.{arith, ◌≡◌, ◌≤◌, length, ap, sym, subst, ◌∙◌}
+use Rattle.std.proofs.Common.{arith, ap}
 use Rattle.hx_word.specs.Plain.{OpenView}
 use Rattle.hx_word.specs.Entry.{privates_in}
 use Rattle.hx_word.proofs.Entries.{privates_few}

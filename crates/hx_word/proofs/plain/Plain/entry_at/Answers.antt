@@ -1,7 +1,5 @@
-use Rattle.std.proofs.Common.{arith, rules, ◌≡◌, ◌+◌, ◌-◌, ◌<◌, ◌≤◌, ℕ, suc, Some, None, is_some, IsSome, true, false, refl, ap, sym, subst, ◌∙◌}
+use Rattle.std.proofs.Common.{arith, rules, ◌≡◌, ◌+◌, ◌-◌, ◌<◌, ℕ, suc, Some, None, is_some, IsSome, true, false, refl, ap, sym, subst, ◌∙◌}
 use Rattle.std.specs.Bool.{MatchBool}
-use Rattle.hx_code.specs.Code.{CodeView}
-use Rattle.hx_code.specs.Region.{RegionState}
 use Rattle.hx_code.specs.Machine.{Machine, machine_after}
 use Rattle.hx_word.specs.Running.{running}
 use Rattle.hx_word.specs.Plain.{PlainView, machine_of, one_store, openings, opens_next, Quiet, OpensLast}

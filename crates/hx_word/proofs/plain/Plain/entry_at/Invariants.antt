@@ -1,4 +1,4 @@
-use Rattle.std.proofs.Common.{◌-◌, ◌+◌, ◌≡◌, ◌≤◌, ◌<◌}
+use Rattle.std.proofs.Common.{◌-◌, ◌+◌, ◌≡◌, ◌≤◌}
 use Rattle.hx_code.specs.Machine.{machine_after}
 use Rattle.hx_word.specs.Plain.{machine_of, one_store, openings, HasRoom, StandsWell}
 use Rattle.hx_word.proofs.plain.Plain.entry_at.Given as goal

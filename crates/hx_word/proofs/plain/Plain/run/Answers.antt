@@ -1,9 +1,7 @@
-use Rattle.std.proofs.Common.{arith, rules, ◌≡◌, ◌+◌, ◌-◌, ◌<◌, ◌≤◌, ℕ, Some, None, is_some, take, true, false, refl, ap, sym, subst, ◌∙◌}
-use Rattle.hx_tree.specs.declared.outcome.Outcome.{Outcome}
-use Rattle.hx_tree.specs.declared.outcome.Counts.{Counts}
+use Rattle.std.proofs.Common.{arith, ◌≡◌, ◌+◌, ◌-◌, Some, is_some, take, true, false, ap, sym, subst, ◌∙◌}
 use Rattle.hx_code.specs.Code.{CodeView}
 use Rattle.hx_code.specs.Machine.{Machine, machine_after, EndsWith, counts_of}
-use Rattle.hx_word.specs.Plain.{PlainView, machine_of, one_store, StandsWell}
+use Rattle.hx_word.specs.Plain.{PlainView, machine_of, one_store}
 use Rattle.hx_word.proofs.Advance.{then_ran, stands_for, ended_is, ended_out, end_same}
 use Rattle.hx_word.proofs.plain.Plain.run.Goals as goal
 use Rattle.hx_word.proofs.plain.Plain.run.Goals.{then-loop-left-test+else-is_none, else-loop-left-test}

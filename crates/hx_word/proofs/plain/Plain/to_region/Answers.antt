@@ -1,6 +1,5 @@
-use Rattle.std.proofs.Common.{arith, ◌≡◌, ◌+◌, ◌-◌, ◌<◌, ◌≤◌, ℕ, Some, None, true, false, take, refl, ap, sym, subst, ◌∙◌}
+use Rattle.std.proofs.Common.{arith, ◌≡◌, ◌+◌, ◌-◌, Some, ap, sym, subst, ◌∙◌}
 use Rattle.std.specs.Bool.{MatchBool}
-use Rattle.hx_code.specs.Code.{CodeView}
 use Rattle.hx_code.specs.Machine.{Machine, machine_after, EndsWith, counts_of}
 use Rattle.hx_word.specs.Plain.{PlainView, machine_of, one_store, Quiet, OpensLast}
 use Rattle.hx_word.proofs.Inside.{in_is}

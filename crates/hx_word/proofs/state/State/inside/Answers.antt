@@ -1,17 +1,16 @@
-use Rattle.std.proofs.Common.{arith, ◌≡◌, ◌≢◌, ◌+◌, ◌≤◌, ◌++◌, ℕ, ℤ, List, suc, length, ap, sym, subst, ◌∙◌, refl, Option, Some, None, true}
+use Rattle.std.proofs.Common.{arith, ◌≡◌, ◌≢◌, ℕ, ℤ, List, suc, length, ap, sym, subst, ◌∙◌, refl, Option, Some, None, true}
 use Rattle.std.specs.Prelude.{if◌then◌else◌}
 use Rattle.std.specs.Vec.{with_items, vec_len}
 use Rattle.std.proofs.lemmas.List.{with_items_is}
-use Rattle.hx_tree.specs.declared.limits.TheConstants.{TEXT_LIMIT}
 use Rattle.hx_code.specs.declared.word.Exit.{Exit}
 use Rattle.hx_word.specs.declared.state.State.{State}
 use Rattle.hx_word.specs.declared.iterations.Iterations.{Iterations}
-use Rattle.hx_code.specs.Code.{CodeView, store_words}
+use Rattle.hx_code.specs.Code.{CodeView}
 use Rattle.hx_code.specs.Region.{Opened, RegionState, region_after, result_of}
 use Rattle.hx_code.specs.Machine.{Machine, machine_after, resumed}
 use Rattle.hx_word.specs.Opening.{opened_of}
 use Rattle.hx_word.specs.Running.{running, RunsWell, IsOpened, BeforeLast}
-use Rattle.hx_word.specs.Plain.{machine_of, one_store, Quiet, MayResume, StandsWell}
+use Rattle.hx_word.specs.Plain.{machine_of, one_store, Quiet, MayResume}
 use Rattle.hx_word.proofs.MachineSteps.{out_of}
 use Rattle.hx_word.proofs.Inside.{in_region, in_is, runs_in, stands_in, inside_after, inside_ends, quiet_inside, quiet_next, resumed_none, one_store_none}
 use Rattle.hx_word.proofs.state.State.inside.Goals as goal
