@@ -1,13 +1,12 @@
 -- The machine as a run begins.
-use Rattle.std.proofs.Common.{◌≡◌, ℕ, ◌+◌, ◌-◌, ◌<◌, ◌≤◌, ℤ, pos, List, [], ◌∷◌, ◌++◌, length, take, drop, replicate, Option, Some, None, refl, ap, sym, subst, ◌∙◌, arith, length-set, length-append, length-take, length-drop}
-use Rattle.std.specs.Prelude.{slice_get, slice_set}
+use Rattle.std.proofs.Common.{◌≡◌, ℕ, ◌≤◌, ℤ, pos, List, [], ◌∷◌, length, replicate, Option, Some, None, refl, ap, sym, subst, ◌∙◌, arith, length-set, length-append, length-take, length-drop}
 use Rattle.std.proofs.lemmas.Option.{get_or_from_slice_get}
 use Rattle.hx_tree.specs.declared.limits.TheConstants.{CELL_LIMIT}
 use Rattle.hx_code.specs.declared.word.Array.{Array}
 use Rattle.hx_code.specs.Code.{CodeView, FuncView, main_of, store_words}
 use Rattle.hx_code.specs.Valid.{IsValid, IsArrayOrNone}
 use Rattle.hx_code.specs.Local.{LocalView, begun, blank}
-use Rattle.hx_code.specs.Fits.{FitsCall, FitsIn, FitsLocal, region_in}
+use Rattle.hx_code.specs.Fits.{FitsIn, FitsLocal, region_in}
 use Rattle.hx_code.specs.Machine.{first_local, opening_store, filled, counted, array_words, InputFits}
 use Rattle.hx_word.specs.Plain.{RunsOutside}
 

@@ -1,5 +1,5 @@
 -- From the words of a region to those of the machine that runs it.
-use Rattle.std.proofs.Common.{◌≡◌, ◌≢◌, ℕ, zero, suc, ◌+◌, ◌-◌, ◌<◌, ◌≤◌, ℤ, List, [], ◌∷◌, ◌++◌, length, Option, Some, None, Bool, true, false, is_none, is_some, refl, ap, sym, subst, ◌∙◌, arith, add-one, add-zero, add-suc}
+use Rattle.std.proofs.Common.{◌≡◌, ℕ, zero, suc, ◌+◌, ◌≤◌, ℤ, List, [], ◌∷◌, ◌++◌, length, Option, Some, None, Bool, true, false, is_none, is_some, refl, ap, sym, subst, ◌∙◌, add-zero}
 use Rattle.std.specs.Prelude.{if◌then◌else◌}
 use Rattle.hx_tree.specs.declared.limits.TheConstants.{TEXT_LIMIT}
 use Rattle.hx_code.specs.declared.word.Exit.{Exit}
@@ -7,7 +7,7 @@ use Rattle.hx_code.specs.declared.word.Exit.TheVariants.{Left, Returned, Faulted
 use Rattle.hx_code.specs.Code.{CodeView, store_words}
 use Rattle.hx_code.specs.Call.{CallView}
 use Rattle.hx_code.specs.Region.{held, RegionState, region_step, region_after, RegionResult, result_of}
-use Rattle.hx_code.specs.Machine.{Machine, machine_step, machine_after, by_end, by_within, region_next, resumed, goes_behind, returns}
+use Rattle.hx_code.specs.Machine.{Machine, machine_step, machine_after, by_end, region_next, resumed, goes_behind, returns}
 use Rattle.hx_word.specs.declared.state.State.{State}
 use Rattle.hx_word.specs.Running.{running}
 use Rattle.hx_word.specs.Plain.{machine_of, with_store_of, one_store, opens_next, openings, Quiet, GoesOn, StandsWell, RunsInside}

@@ -6,7 +6,6 @@ use Rattle.hx_code.specs.declared.table.Spot.{Spot}
 use Rattle.hx_code.specs.Code.{CodeView, region_of, store_words}
 use Rattle.hx_code.specs.Valid.{privates_of}
 use Rattle.hx_code.specs.Region.{Opened, RegionState, RegionResult, words_after}
-use Rattle.hx_code.specs.Machine.{Machine}
 use Rattle.hx_word.specs.declared.entry.Entry.{Entry}
 use Rattle.hx_word.specs.declared.entry.RegionEnd.{RegionEnd}
 
@@ -59,6 +58,12 @@ pub record IsEndOf (code : CodeView) (z : RegionState) (n : ℕ) (e : RegionEnd)
   pub text : e.text.items ≡ z.text
   pub counts : e.counts ≡ region_counts z.turns
 
+-- it has the lengths of its entry, and its text fits behind what was printed before
+pub record EndLasts (code : CodeView) (z : RegionState) (n : ℕ) (e : RegionEnd) : Type 0 where
+  pub store : length e.store.items ≡ store_words code
+  pub locals : length e.locals.items ≡ n
+  pub text : z.opened.printed + length e.text.items ≤ TEXT_LIMIT
+
 -- an end that fits the region that was opened so, behind this text
 pub record EndFits (code : CodeView) (o : Opened) (printed : List ℕ) (e : RegionEnd) : Type 0 where
   pub store : length e.store.items ≡ store_words code
@@ -68,5 +73,10 @@ pub record EndFits (code : CodeView) (o : Opened) (printed : List ℕ) (e : Regi
 -- what an end says of the region that was opened so: private words that it doesn't name stay
 abbrev pub result_from : Opened → RegionEnd → RegionResult
 result_from o e = record {
-  exit = e.exit; store = e.store.items; words = e.locals.items ++ drop (length e.locals.items) o.words; text = e.text.items;
-  regions = e.counts.regions; turns = e.counts.turns }
+  exit = e.exit;
+  store = e.store.items;
+  words = e.locals.items ++ drop (length e.locals.items) o.words;
+  text = e.text.items;
+  regions = e.counts.regions;
+  turns = e.counts.turns;
+}

@@ -1,5 +1,5 @@
 -- What is kept of a region that runs, and what is known of it in valid code.
-use Rattle.std.specs.Prelude.{◌≡◌, ℕ, zero, suc, ◌+◌, ◌<◌, ◌≤◌, ℤ, List, length, Option, Some, None}
+use Rattle.std.specs.Prelude.{◌≡◌, ℕ, suc, ◌+◌, ◌<◌, ◌≤◌, ℤ, List, length, Option, Some, None}
 use Rattle.hx_tree.specs.declared.limits.TheConstants.{CALL_LIMIT, PRIVATE_LIMIT, TEXT_LIMIT}
 use Rattle.hx_code.specs.declared.word.Exit.{Exit}
 use Rattle.hx_word.specs.declared.iterations.Iterations.{Iterations}
@@ -45,5 +45,6 @@ pub record KeepsRegion (code : CodeView) (z : RegionState) (reserved count : ℕ
   pub opened : IsOpened code z.opened
   pub store : length z.store ≡ store_words code
   pub goes : z.exit ≡ None → RunsWell code z
+  pub text : z.opened.printed + length z.text ≤ TEXT_LIMIT
   pub room : TEXT_LIMIT ≤ reserved
   pub locals : count ≤ PRIVATE_LIMIT

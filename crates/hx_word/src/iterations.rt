@@ -5,10 +5,10 @@ ghost use Rattle.hx_code.specs.Region.{region_after, region_opening, opening};
 ghost use Rattle.hx_word.specs.Opening.{opened_of};
 ghost use Rattle.hx_word.specs.Running.{running, IsOpened, RunsWell, BeforeLast};
 
-use hx_code::code::Code;
-use hx_code::local::Local;
 use crate::opened::Opened;
 use crate::text::print;
+use hx_code::code::Code;
+use hx_code::local::Local;
 use hx_code::word::{Ask, Exit};
 use hx_tree::limits::TEXT_LIMIT;
 use hx_tree::outcome::{Fault, FaultKind};

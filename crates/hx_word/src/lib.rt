@@ -2,15 +2,24 @@
 //! after another.
 #![tactic(auto)]
 
-pub mod carry;
+mod carry;
 pub mod entry;
-pub mod iterations;
-pub mod opened;
-pub mod opening;
+mod iterations;
+mod opened;
+mod opening;
 pub mod plain;
 pub mod region_run;
-pub mod state;
-pub mod text;
-
+mod state;
 #[cfg(test)]
 mod tests;
+mod text;
+
+pub use entry::{Entry, RegionEnd};
+pub use hx_code::Stretched;
+pub use hx_code::code::Code;
+pub use hx_code::local::Local;
+pub use hx_code::table::{Carried, Func, Region, Spot, Tables};
+pub use hx_code::validate::validate;
+pub use hx_code::word::{Array, Ask, Exit, Next, Output, Word};
+pub use plain::{Open, Paused, Plain, PlainError, Ran, Reached};
+pub use region_run::RegionRun;

@@ -2,7 +2,7 @@
 
 ghost use Rattle.std.specs.Prelude.{◌≡◌, IfOk, MatchResult, None, is_some, length};
 ghost use Rattle.hx_code.specs.Region.{region_opening, region_after};
-ghost use Rattle.hx_word.specs.Entry.{EntryFits, IsEndOf, opened_from};
+ghost use Rattle.hx_word.specs.Entry.{EntryFits, IsEndOf, EndLasts, opened_from};
 ghost use Rattle.hx_word.specs.Running.{RunView};
 
 use crate::entry::{Entry, RegionEnd, put_words};
@@ -86,7 +86,8 @@ impl<'c> RegionRun<'c> {
 
     /// The region's end, or exactly where it hasn't ended the region as it is. It takes no memory.
     pub fn end(self) -> Result<RegionEnd, RegionRun<'c>>
-        ensures { MatchResult result (λ e. IsEndOf self.entry.code self.entry.state self.entry.locals e) (λ run. (run ≡ self.entry) × (self.entry.state.exit ≡ None)) }
+        ensures fits { IfOk result (λ e. EndLasts self.entry.code self.entry.state self.entry.locals e) }
+        ensures end { MatchResult result (λ e. IsEndOf self.entry.code self.entry.state self.entry.locals e) (λ run. (run ≡ self.entry) × (self.entry.state.exit ≡ None)) }
     {
         let RegionRun {
             code,

@@ -1,11 +1,15 @@
 // Codes by hand, run by the plain machine. Places of words and answers follow from the language's rules.
 
-use crate::plain::{Plain, Ran};
+use crate::entry::Entry;
+use crate::plain::{Open, Paused, Plain, Ran, Reached};
+use crate::region_run::RegionRun;
+use crate::text::print;
 use hx_code::code::Code;
-use hx_code::table::{Func, Region, Spot, Tables};
+use hx_code::table::{Carried, Func, Region, Spot, Tables};
 use hx_code::validate::validate;
-use hx_code::word::Word;
-use hx_tree::outcome::{Counts, End, Outcome};
+use hx_code::word::{Array, Exit, Output, Word};
+use hx_tree::limits::TEXT_LIMIT;
+use hx_tree::outcome::{Counts, End, Fault, FaultKind, Outcome};
 use hx_tree::token::Pos;
 use hx_tree::tree::Operator;
 use std::alloc::Global;
@@ -21,7 +25,11 @@ const ADD: Word = Word::Binary(Operator::Add, NOWHERE);
 fn spots(alloc: Global, heights: &[u32], from: usize, to: usize) -> Result<Vec<Spot>, Fail> {
     let mut spots = Vec::new(alloc);
     for (place, height) in heights.iter().enumerate() {
-        let region = if from <= place && place < to { Some(0) } else { None };
+        let region = if from <= place && place < to {
+            Some(0)
+        } else {
+            None
+        };
         spots.push(Spot {
             function: 0,
             region,
@@ -29,6 +37,39 @@ fn spots(alloc: Global, heights: &[u32], from: usize, to: usize) -> Result<Vec<S
         })?;
     }
     Ok(spots)
+}
+
+// Code of main and of f, which takes so many parameters and begins at a place.
+fn main_and_f(
+    alloc: Global,
+    words: &[Word],
+    places: &[(u32, Option<u32>, u32)],
+    f: (u32, u32),
+    regions: Vec<Region>,
+) -> Result<Code, Fail> {
+    let mut spots = Vec::new(alloc);
+    for (function, region, height) in places {
+        spots.push(Spot {
+            function: *function,
+            region: *region,
+            height: *height,
+        })?;
+    }
+    let mut functions = Vec::new(alloc);
+    functions.push(Func::new(Vec::from_slice(alloc, b"main")?, 0, 0, 1))?;
+    functions.push(Func::new(Vec::from_slice(alloc, b"f")?, f.0, f.1, f.1))?;
+    let tables = Tables {
+        spots,
+        functions,
+        regions,
+        globals: 0,
+        opening: Vec::new(alloc),
+        main: 0,
+        input: None,
+        input_length: None,
+    };
+    let code = validate(Vec::from_slice(alloc, words)?, tables);
+    Ok(code.ok_or("the code is not valid")?)
 }
 
 // Code of main alone, without private words.
@@ -140,5 +181,296 @@ fn two_turns_end_with_the_26th_word(rt: HostRuntime) -> Result<(), Fail> {
     assert_eq!(rt; outcome.end, End::Normal(0));
     assert_eq!(rt; counts.turns, 2);
     assert_eq!(rt; counts.regions, 1);
+    Ok(())
+}
+
+fn fault(kind: FaultKind, col: u32) -> End {
+    End::Fault(Fault {
+        kind,
+        pos: Pos { line: 1, col },
+    })
+}
+
+// int f(int n){ if(n) return f(n+-1); return 7; } int main(){ return f(calls); }
+fn countdown(alloc: Global, calls: i32) -> Result<Code, Fail> {
+    let words = [
+        Word::Const(calls),
+        Word::Call(1, Pos { line: 1, col: 68 }),
+        Word::Ret,
+        Word::Priv(0),
+        Word::JumpFalse(10),
+        Word::Priv(0),
+        Word::Const(-1),
+        ADD,
+        Word::Call(1, Pos { line: 1, col: 28 }),
+        Word::Ret,
+        Word::Const(7),
+        Word::Ret,
+    ];
+    let places = [
+        (0, None, 0),
+        (0, None, 1),
+        (0, None, 1),
+        (1, None, 0),
+        (1, None, 1),
+        (1, None, 0),
+        (1, None, 1),
+        (1, None, 2),
+        (1, None, 1),
+        (1, None, 1),
+        (1, None, 0),
+        (1, None, 1),
+    ];
+    main_and_f(alloc, &words, &places, (3, 1), Vec::new(alloc))
+}
+
+#[test]
+fn calls_reach_depth_64_and_not_65(rt: HostRuntime) -> Result<(), Fail> {
+    let code = countdown(rt.alloc(), 62)?;
+    let (outcome, _) = ended(rt.alloc(), &code, &[], 1000)?.ok_or("not ended")?;
+    assert_eq!(rt; outcome.end, End::Normal(7));
+    let code = countdown(rt.alloc(), 63)?;
+    let (outcome, _) = ended(rt.alloc(), &code, &[], 1000)?.ok_or("not ended")?;
+    assert_eq!(rt; outcome.end, fault(FaultKind::CallTooDeep, 28));
+    Ok(())
+}
+
+#[test]
+fn faults_have_their_places(rt: HostRuntime) -> Result<(), Fail> {
+    let quotient = Word::Binary(Operator::Div, Pos { line: 1, col: 20 });
+    let words = [Word::Const(1), Word::Const(0), quotient, Word::Ret];
+    let places = spots(rt.alloc(), &[0, 1, 2, 1], 0, 0)?;
+    let code = main_alone(rt.alloc(), &words, places, Vec::new(rt.alloc()), &[])?;
+    let (outcome, _) = ended(rt.alloc(), &code, &[], 3)?.ok_or("not ended")?;
+    assert_eq!(rt; outcome.end, fault(FaultKind::ZeroDivisor, 20));
+    for index in [4, -1] {
+        let array = Array { base: 0, length: 4 };
+        let element = Word::Elem(array, Pos { line: 1, col: 31 });
+        let words = [Word::Const(index), element, Word::Ret];
+        let places = spots(rt.alloc(), &[0, 1, 1], 0, 0)?;
+        let code = main_alone(
+            rt.alloc(),
+            &words,
+            places,
+            Vec::new(rt.alloc()),
+            &[5, 6, 7, 8],
+        )?;
+        let (outcome, _) = ended(rt.alloc(), &code, &[], 2)?.ok_or("not ended")?;
+        assert_eq!(rt; outcome.end, fault(FaultKind::IndexOutOfRange, 31));
+        assert_eq!(rt; outcome.globals.as_slice(), [5, 6, 7, 8].as_slice());
+    }
+    Ok(())
+}
+
+#[test]
+fn text_is_full_at_its_limit(rt: HostRuntime) -> Result<(), Fail> {
+    let mut text = Vec::with_capacity(rt.alloc(), TEXT_LIMIT)?;
+    assert!(rt; print(&mut text, TEXT_LIMIT - 3, Output::Byte(65)));
+    assert!(rt; print(&mut text, TEXT_LIMIT - 3, Output::Number(5)));
+    assert_eq!(rt; text.as_slice(), b"A5\n".as_slice());
+    assert!(rt; !print(&mut text, TEXT_LIMIT - 3, Output::Byte(66)));
+    assert!(rt; !print(&mut text, TEXT_LIMIT - 4, Output::Number(5)));
+    assert!(rt; print(&mut text, TEXT_LIMIT - 4, Output::Byte(66)));
+    assert_eq!(rt; text.as_slice(), b"A5\nB".as_slice());
+    Ok(())
+}
+
+// int main(){ pwhile(1) emit(65); }
+#[test]
+fn an_endless_print_fills_the_text(rt: HostRuntime) -> Result<(), Fail> {
+    let place = Pos { line: 1, col: 23 };
+    let words = [
+        Word::Enter(0, 7),
+        Word::Const(1),
+        Word::JumpFalse(6),
+        Word::Const(65),
+        Word::Emit(place),
+        Word::Turn,
+        Word::Leave,
+        Word::Const(1),
+        Word::JumpFalse(12),
+        Word::Const(65),
+        Word::Emit(place),
+        Word::Jump(7),
+        Word::Const(0),
+        Word::Ret,
+    ];
+    let heights = [0, 0, 1, 0, 1, 0, 0, 0, 1, 0, 1, 0, 0, 1];
+    let mut regions = Vec::new(rt.alloc());
+    regions.push(Region::new(1, 12, Vec::new(rt.alloc()), Vec::new(rt.alloc())))?;
+    let places = spots(rt.alloc(), &heights, 1, 7)?;
+    let code = main_alone(rt.alloc(), &words, places, regions, &[])?;
+    let (outcome, counts) = ended(rt.alloc(), &code, &[], 10000000)?.ok_or("not ended")?;
+    assert_eq!(rt; outcome.text.len(), TEXT_LIMIT);
+    assert!(rt; outcome.text.as_slice().iter().all(|byte| *byte == 65));
+    assert_eq!(rt; outcome.end, fault(FaultKind::TextFull, 23));
+    assert_eq!(rt; counts.turns, 1048576);
+    Ok(())
+}
+
+// f opens region 0 and returns 9 from it; where a region is active already, it returns 5.
+fn returning(alloc: Global, main: [Word; 5], heights: [u32; 5]) -> Result<Code, Fail> {
+    let words = [
+        main[0],
+        main[1],
+        main[2],
+        main[3],
+        main[4],
+        Word::Enter(0, 8),
+        Word::Const(9),
+        Word::Ret,
+        Word::Const(5),
+        Word::Ret,
+    ];
+    let places = [
+        (0, None, heights[0]),
+        (0, None, heights[1]),
+        (0, None, heights[2]),
+        (0, None, heights[3]),
+        (0, None, heights[4]),
+        (1, None, 0),
+        (1, Some(0), 0),
+        (1, Some(0), 1),
+        (1, None, 0),
+        (1, None, 1),
+    ];
+    let mut regions = Vec::new(alloc);
+    regions.push(Region::new(6, 8, Vec::new(alloc), Vec::new(alloc)))?;
+    main_and_f(alloc, &words, &places, (5, 0), regions)
+}
+
+#[test]
+fn a_return_ends_the_call_that_opened_the_region(rt: HostRuntime) -> Result<(), Fail> {
+    let call = Word::Call(1, NOWHERE);
+    let main = [call, Word::SetPriv(0), call, Word::Ret, Word::Jump(3)];
+    let code = returning(rt.alloc(), main, [0, 1, 0, 1, 1])?;
+    let (outcome, counts) = ended(rt.alloc(), &code, &[], 100)?.ok_or("not ended")?;
+    assert_eq!(rt; outcome.end, End::Normal(9));
+    assert_eq!(rt; counts.regions, 2);
+    assert_eq!(rt; counts.turns, 0);
+    Ok(())
+}
+
+// Region 1 of main calls f, whose own region is not opened inside it.
+#[test]
+fn no_region_opens_inside_a_region(rt: HostRuntime) -> Result<(), Fail> {
+    let words = [
+        Word::Enter(1, 3),
+        Word::Call(1, NOWHERE),
+        Word::Ret,
+        Word::Const(0),
+        Word::Ret,
+        Word::Enter(0, 8),
+        Word::Const(9),
+        Word::Ret,
+        Word::Const(5),
+        Word::Ret,
+    ];
+    let places = [
+        (0, None, 0),
+        (0, Some(1), 0),
+        (0, Some(1), 1),
+        (0, None, 0),
+        (0, None, 1),
+        (1, None, 0),
+        (1, Some(0), 0),
+        (1, Some(0), 1),
+        (1, None, 0),
+        (1, None, 1),
+    ];
+    let mut regions = Vec::new(rt.alloc());
+    regions.push(Region::new(6, 8, Vec::new(rt.alloc()), Vec::new(rt.alloc())))?;
+    regions.push(Region::new(1, 3, Vec::new(rt.alloc()), Vec::new(rt.alloc())))?;
+    let code = main_and_f(rt.alloc(), &words, &places, (5, 0), regions)?;
+    let (outcome, counts) = ended(rt.alloc(), &code, &[], 100)?.ok_or("not ended")?;
+    assert_eq!(rt; outcome.end, End::Normal(5));
+    assert_eq!(rt; counts.regions, 1);
+    Ok(())
+}
+
+// A local that begins as 3 is carried and grows by 1 each turn, until it is 5.
+#[test]
+fn a_carried_word_comes_back(rt: HostRuntime) -> Result<(), Fail> {
+    let words = [
+        Word::Const(3),
+        Word::SetPriv(0),
+        Word::Enter(0, 13),
+        Word::Glob(0),
+        Word::Const(1),
+        ADD,
+        Word::SetGlob(0),
+        Word::Glob(0),
+        Word::Const(5),
+        LESS,
+        Word::JumpFalse(12),
+        Word::Turn,
+        Word::Leave,
+        Word::Priv(0),
+        Word::Ret,
+        Word::Const(0),
+        Word::Ret,
+    ];
+    let places = [
+        (0, None, 0),
+        (0, None, 1),
+        (0, None, 0),
+        (0, Some(0), 0),
+        (0, Some(0), 1),
+        (0, Some(0), 2),
+        (0, Some(0), 1),
+        (0, Some(0), 0),
+        (0, Some(0), 1),
+        (0, Some(0), 2),
+        (0, Some(0), 1),
+        (0, Some(0), 0),
+        (0, Some(0), 0),
+        (0, None, 0),
+        (0, None, 1),
+        (1, None, 0),
+        (1, None, 1),
+    ];
+    let mut carried = Vec::new(rt.alloc());
+    carried.push(Carried {
+        private: 0,
+        cell: 0,
+    })?;
+    let mut regions = Vec::new(rt.alloc());
+    regions.push(Region::new(3, 13, carried, Vec::new(rt.alloc())))?;
+    let code = main_and_f(rt.alloc(), &words, &places, (15, 0), regions)?;
+    let (outcome, counts) = ended(rt.alloc(), &code, &[], 100)?.ok_or("not ended")?;
+    assert_eq!(rt; outcome.end, End::Normal(5));
+    assert_eq!(rt; outcome.globals.len(), 0);
+    assert_eq!(rt; counts.turns, 1);
+    Ok(())
+}
+
+// How a search for the n-th region comes out: 0 at it, 1 ended before, 2 neither.
+fn search(alloc: Global, code: &Code, n: u64, steps: u64) -> Result<(u8, Option<Entry>), Fail> {
+    let Ok(plain) = Plain::new(alloc, code, &[]) else {
+        return Err(Fail::from("no machine"));
+    };
+    if n == 0 {
+        return Err(Fail::from("regions are counted from 1"));
+    }
+    match plain.entry_at(alloc, n, steps)? {
+        Reached::At(_, entry) => Ok((0, Some(entry))),
+        Reached::Ended => Ok((1, None)),
+        Reached::More => Ok((2, None)),
+    }
+}
+
+#[test]
+fn entries_of_two_turns(rt: HostRuntime) -> Result<(), Fail> {
+    let code = two_turns(rt.alloc())?;
+    assert_eq!(rt; search(rt.alloc(), &code, 2, 26)?.0, 1);
+    assert_eq!(rt; search(rt.alloc(), &code, 2, 25)?.0, 2);
+    assert_eq!(rt; search(rt.alloc(), &code, 1, 0)?.0, 2);
+    let (found, entry) = search(rt.alloc(), &code, 1, 1)?;
+    assert_eq!(rt; found, 0);
+    let entry = entry.ok_or("no entry")?;
+    assert_eq!(rt; entry.store.len(), 65);
+    assert_eq!(rt; entry.locals.len(), 0);
+    assert_eq!(rt; entry.depth, 1);
+    assert_eq!(rt; entry.text_len, 0);
     Ok(())
 }

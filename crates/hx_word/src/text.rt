@@ -23,14 +23,20 @@ pub fn print(text: &mut Vec<u8>, before: usize, output: Output) -> bool
             if TEXT_LIMIT - before - text.len() < digits.len() + 1 {
                 return false;
             }
-            let Ok(()) = text.extend_from_slice(digits) else { unreachable!() };
-            let Ok(()) = text.push(10) else { unreachable!() };
+            let Ok(()) = text.extend_from_slice(digits) else {
+                unreachable!()
+            };
+            let Ok(()) = text.push(10) else {
+                unreachable!()
+            };
         }
         Output::Byte(byte) => {
             if TEXT_LIMIT - before <= text.len() {
                 return false;
             }
-            let Ok(()) = text.push(byte) else { unreachable!() };
+            let Ok(()) = text.push(byte) else {
+                unreachable!()
+            };
         }
     }
     true

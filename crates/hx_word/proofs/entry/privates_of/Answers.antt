@@ -1,8 +1,7 @@
-use Rattle.std.proofs.Common.{arith, ◌≡◌, ℕ, ◌<◌, ◌≤◌, length, Some, ap, sym, subst, ◌∙◌}
+use Rattle.std.proofs.Common.{arith, ◌<◌, length, Some, ap, sym, subst, ◌∙◌}
 use Rattle.std.specs.Prelude.{slice_get}
 use Rattle.std.proofs.lemmas.Option.{slice_get_within}
-use Rattle.hx_code.specs.declared.table.Spot.{Spot}
-use Rattle.hx_code.specs.Code.{CodeView, RegionView, FuncView}
+use Rattle.hx_code.specs.Code.{RegionView}
 use Rattle.hx_code.specs.Valid.{IsSpot, IsSmallFunction, privates_of as count_of}
 use Rattle.hx_code.proofs.Rooms.{all_at}
 use Rattle.hx_code.proofs.Regions.{the_region}

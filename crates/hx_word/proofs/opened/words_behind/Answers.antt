@@ -1,10 +1,5 @@
-use Rattle.std.proofs.Common.{◌≡◌, ℕ, ℤ, List, ap, sym, subst, ◌∙◌, refl}
-use Rattle.hx_code.specs.declared.table.Carried.{Carried}
-use Rattle.hx_code.specs.declared.word.Exit.TheVariants.{Left, Returned, Faulted}
-use Rattle.hx_code.specs.Code.{RegionView, region_of}
-use Rattle.hx_code.specs.Region.{from_cells, words_after}
+use Rattle.std.proofs.Common.{sym, subst}
 use Rattle.hx_word.specs.Carry.{AreCarried}
-use Rattle.hx_word.specs.Opening.{opened_of}
 use Rattle.hx_word.proofs.Regions.{are_carried}
 use Rattle.hx_word.proofs.opened.words_behind.Goals as goal
 

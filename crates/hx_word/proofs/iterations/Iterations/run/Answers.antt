@@ -1,16 +1,13 @@
-use Rattle.std.proofs.Common.{arith, rules, ◌≡◌, ◌≢◌, ◌≤◌, ◌<◌, ◌+◌, ℕ, length, ap, sym, subst, ◌∙◌, to_z, of_z, w32, refl, true, false, ◌++◌, Some, None, length-set, length-append, vec_capacity}
+use Rattle.std.proofs.Common.{arith, rules, ◌≡◌, ◌≤◌, ◌+◌, length, ap, sym, subst, ◌∙◌, to_z, of_z, w32, refl, true, false, ◌++◌, Some, None, length-set, length-append, vec_capacity}
 use Rattle.std.specs.Prelude.{nat_le, slice_set, slice_index_or, pos}
 use Rattle.hx_tree.specs.declared.limits.TheConstants.{TEXT_LIMIT}
-use Rattle.hx_code.specs.declared.word.Ask.{Ask}
-use Rattle.hx_code.specs.declared.word.Ask.TheVariants.{Goes, Loads, Stores, Prints, Faults, Turns, Leaves, Returns}
+use Rattle.hx_code.specs.declared.word.Ask.TheVariants.{Loads, Stores, Prints, Faults, Turns, Leaves, Returns}
 use Rattle.std.proofs.lemmas.Bool.Decides.{nat_tests}
 use Rattle.hx_tree.specs.declared.outcome.FaultKind.TheVariants.{TextFull}
 use Rattle.hx_code.specs.declared.word.Exit.TheVariants.{Left, Faulted, Returned}
 use Rattle.hx_code.specs.Region.{region_after, region_turns, held}
-use Rattle.hx_code.specs.Code.{CodeView}
 use Rattle.hx_code.specs.Local.{LocalView, loaded}
-use Rattle.hx_code.specs.Fits.{FitsLocal, LocalGoing, LocalStretch, goes_on}
-use Rattle.hx_code.specs.declared.word.Next.{Next}
+use Rattle.hx_code.specs.Fits.{FitsLocal, goes_on}
 use Rattle.hx_word.specs.Running.{running, RunsWell, BeforeLast}
 use Rattle.hx_word.specs.declared.iterations.Iterated.{Iterated}
 use Rattle.hx_word.specs.declared.iterations.Iterations.{Iterations}
@@ -77,7 +74,7 @@ returns-then-not-print-clause-ran c =
     let e : c.go_on-in-Prints.new.self ≡ goes_on c.stretch-done.result.next c.stretch-done.new.self = c.go_on-in-Prints.ensures in
     let z = record y { local = c.go_on-in-Prints.new.self; exit = Some (Faulted (fault_at TextFull c.in-Prints.at)) } in
     subst (λ (r : Iterated). region_after c.args.code.now r.words (running c.args.self.now c.args.store.now None) ≡ record z { text = c.print.new.text.items; exit = r.exit }) (sym c.ended.ensures)
-      (asked_after _ _ _ _ _ _ _ _ i.ran refl t ∙ rw test refl ∙ ap (at_local (record z { text = y.text })) (sym e) ∙ ap (λ tx. record z { text = tx }) (sym items))
+    (asked_after _ _ _ _ _ _ _ _ i.ran refl t ∙ rw test refl ∙ ap (at_local (record z { text = y.text })) (sym e) ∙ ap (λ tx. record z { text = tx }) (sym items))
 
 pub returns-then-not-print-clause-before : goal.returns-then-not-print-clause-before
 returns-then-not-print-clause-before c =
@@ -115,7 +112,7 @@ loop-words-preserved c =
     let next = region_turns code y in
     let turns : c.saturating_add-self.result ≡ held (c.loop-words.self.turns + 1) = c.saturating_add-self.ensures ∙ ap (λ (b : Iterations). held (b.turns + 1)) c.begin.ensures in
     let same : running (record c.begin.new.self { turns = c.saturating_add-self.result }) c.loop-words.store None ≡ next =
-      ap (λ (b : Iterations). running (record b { turns = c.saturating_add-self.result }) c.loop-words.store None) c.begin.ensures ∙ ap (λ n. record next { turns = n }) turns in
+    ap (λ (b : Iterations). running (record b { turns = c.saturating_add-self.result }) c.loop-words.store None) c.begin.ensures ∙ ap (λ n. record next { turns = n }) turns in
     let well : RunsWell code next = record { opened = i.well.opened; local = opening_fits code c.known.ensures next.opened i.well.opened next.iteration; region = refl; store = i.well.store; text = i.well.text } in
     record {
       few = omega (arith, lt);
@@ -130,7 +127,7 @@ returns-in-Leaves-clause-ran c =
     let t = asked_as _ _ _ _ _ Leaves _ c.stretch-done.ensures.asks c.in-Leaves.is (λ e. cc) in
     let z = record (running c.loop-words.self c.loop-words.store None) { local = c.go_on-in-Leaves.new.self } in
     subst (λ (r : Iterated). region_after c.args.code.now r.words (running c.args.self.now c.args.store.now None) ≡ record z { exit = r.exit }) (sym c.ended-in-Leaves.ensures)
-      (asked_after _ _ _ _ _ _ _ _ c.loop-words.invariant.ran refl t ∙ ap (at_local (record z { exit = Some Left })) (sym c.go_on-in-Leaves.ensures))
+    (asked_after _ _ _ _ _ _ _ _ c.loop-words.invariant.ran refl t ∙ ap (at_local (record z { exit = Some Left })) (sym c.go_on-in-Leaves.ensures))
 
 pub returns-in-Leaves-clause-before : goal.returns-in-Leaves-clause-before
 returns-in-Leaves-clause-before c =
@@ -143,7 +140,7 @@ returns-in-Returns-clause-ran c =
     let z = record (running c.loop-words.self c.loop-words.store None) { local = c.go_on-in-Returns.new.self } in
     let same : to_z w32 (of_z w32 c.in-Returns.v) ≡ c.in-Returns.v = search rules in
     subst (λ (r : Iterated). region_after c.args.code.now r.words (running c.args.self.now c.args.store.now None) ≡ record z { exit = r.exit }) (sym c.ended-in-Returns.ensures)
-      (asked_after _ _ _ _ _ _ _ _ c.loop-words.invariant.ran refl t ∙ ap (at_local (record z { exit = Some (Returned c.in-Returns.v) })) (sym c.go_on-in-Returns.ensures) ∙ ap (λ v. record z { exit = Some (Returned v) }) (sym same))
+    (asked_after _ _ _ _ _ _ _ _ c.loop-words.invariant.ran refl t ∙ ap (at_local (record z { exit = Some (Returned c.in-Returns.v) })) (sym c.go_on-in-Returns.ensures) ∙ ap (λ v. record z { exit = Some (Returned v) }) (sym same))
 
 pub returns-in-Returns-clause-before : goal.returns-in-Returns-clause-before
 returns-in-Returns-clause-before c =
@@ -155,7 +152,7 @@ returns-in-Faults-clause-ran c =
     let t = asked_as _ _ _ _ _ (Faults c.in-Faults.fault) _ c.stretch-done.ensures.asks c.in-Faults.is (λ e. cc) in
     let z = record (running c.loop-words.self c.loop-words.store None) { local = c.go_on-in-Faults.new.self } in
     subst (λ (r : Iterated). region_after c.args.code.now r.words (running c.args.self.now c.args.store.now None) ≡ record z { exit = r.exit }) (sym c.ended-in-Faults.ensures)
-      (asked_after _ _ _ _ _ _ _ _ c.loop-words.invariant.ran refl t ∙ ap (at_local (record z { exit = Some (Faulted c.in-Faults.fault) })) (sym c.go_on-in-Faults.ensures))
+    (asked_after _ _ _ _ _ _ _ _ c.loop-words.invariant.ran refl t ∙ ap (at_local (record z { exit = Some (Faulted c.in-Faults.fault) })) (sym c.go_on-in-Faults.ensures))
 
 pub returns-in-Faults-clause-before : goal.returns-in-Faults-clause-before
 returns-in-Faults-clause-before c =

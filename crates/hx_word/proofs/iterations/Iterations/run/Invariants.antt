@@ -1,4 +1,4 @@
-use Rattle.std.proofs.Common.{◌-◌, ◌≡◌, ◌+◌, ◌<◌, ◌≤◌, ℕ, Some, None, length, vec_len, vec_capacity}
+use Rattle.std.proofs.Common.{◌-◌, ◌≡◌, ◌≤◌, None, vec_capacity}
 use Rattle.hx_tree.specs.declared.limits.TheConstants.{TEXT_LIMIT}
 use Rattle.hx_code.specs.Region.{region_after}
 use Rattle.hx_word.specs.Running.{running, RunsWell}

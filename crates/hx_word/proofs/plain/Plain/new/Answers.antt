@@ -1,6 +1,4 @@
-use Rattle.std.proofs.Common.{arith, ◌≡◌, ◌≤◌, length, ap, sym, subst, ◌∙◌, refl}
-use Rattle.hx_code.specs.Code.{store_words}
-use Rattle.hx_code.specs.Machine.{first_local}
+use Rattle.std.proofs.Common.{arith, length, ap, sym, subst, ◌∙◌}
 use Rattle.hx_word.specs.Plain.{RunsOutside}
 use Rattle.hx_word.proofs.First.{length-opening, first_runs}
 use Rattle.hx_word.proofs.plain.Plain.new.Goals as goal

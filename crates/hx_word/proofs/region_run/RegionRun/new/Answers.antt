@@ -1,9 +1,9 @@
-use Rattle.std.proofs.Common.{arith, ◌≡◌, ◌-◌, ◌≤◌, ℕ, ℤ, List, length, None, refl, ap, sym, subst, ◌∙◌, vec_capacity}
-use Rattle.hx_tree.specs.declared.limits.TheConstants.{TEXT_LIMIT, PRIVATE_LIMIT}
-use Rattle.hx_code.specs.Code.{CodeView, store_words}
+use Rattle.std.proofs.Common.{arith, ◌≡◌, ◌+◌, ◌-◌, ◌≤◌, ℕ, ℤ, List, length, refl, ap, sym, subst, ◌∙◌}
+use Rattle.hx_tree.specs.declared.limits.TheConstants.{TEXT_LIMIT}
+use Rattle.hx_code.specs.Code.{store_words}
 use Rattle.hx_code.specs.Region.{Opened, RegionState, region_opening}
-use Rattle.hx_word.specs.Running.{RunView, IsOpened, RunsWell, running}
-use Rattle.hx_word.specs.Entry.{opened_from, padded}
+use Rattle.hx_word.specs.Running.{RunView, IsOpened, RunsWell}
+use Rattle.hx_word.specs.Entry.{opened_from}
 use Rattle.hx_word.proofs.Regions.{opening_fits}
 use Rattle.hx_word.proofs.Entries.{privates_few, padded_is}
 use Rattle.hx_word.proofs.region_run.RegionRun.new.Goals as goal
@@ -28,6 +28,7 @@ invariant_of-result c =
       opened = subst (λ (z : RegionState). IsOpened code z.opened) (sym same) is;
       store = long;
       goes = λ _. subst (RunsWell code) (sym same) runs;
+      text = subst (λ (z : RegionState). z.opened.printed + length z.text ≤ TEXT_LIMIT) (sym same) (omega (arith, c.requires.text));
       room = omega (arith, c.open.ensures.room, c.in_ok-iterations.ensures);
       locals = omega (arith, few, ap length c.in_ok-locals.ensures.items, ap length c.deref-3.ensures.value, c.requires.locals);
     }

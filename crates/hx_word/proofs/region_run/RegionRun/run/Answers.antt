@@ -1,10 +1,9 @@
-use Rattle.std.proofs.Common.{arith, rules, ◌≡◌, ◌≤◌, ℕ, ℤ, List, length, Option, None, Some, is_some, true, false, refl, ap, sym, subst, ◌∙◌}
-use Rattle.std.specs.Vec.{with_items, vec_len}
+use Rattle.std.proofs.Common.{arith, rules, ◌≡◌, length, None, Some, is_some, true, false, ap, sym, subst, ◌∙◌}
+use Rattle.std.specs.Vec.{vec_len}
 use Rattle.std.proofs.lemmas.List.{with_items_is}
-use Rattle.hx_code.specs.declared.word.Exit.{Exit}
 use Rattle.hx_code.specs.Code.{CodeView}
 use Rattle.hx_code.specs.Region.{RegionState, region_after}
-use Rattle.hx_word.specs.Running.{RunView, RunsWell, running}
+use Rattle.hx_word.specs.Running.{RunView, running}
 use Rattle.hx_word.proofs.RegionSteps.{region_stays}
 use Rattle.hx_word.proofs.Entries.{held_by, none_there, region_reaches}
 use Rattle.hx_word.proofs.region_run.RegionRun.run.Goals as goal

@@ -1,4 +1,4 @@
-use Rattle.std.proofs.Common.{◌≡◌, ◌+◌, ◌++◌, ℕ, ℤ, List, ap, sym, subst, ◌∙◌, refl, None}
+use Rattle.std.proofs.Common.{◌≡◌, ◌+◌, ◌++◌, ℕ, ℤ, List, ap, ◌∙◌}
 use Rattle.hx_code.specs.Region.{held, words_after}
 use Rattle.hx_code.specs.Machine.{Machine, goes_behind}
 use Rattle.hx_word.specs.Opening.{opened_of}

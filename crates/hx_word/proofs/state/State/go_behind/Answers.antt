@@ -1,13 +1,10 @@
-use Rattle.std.proofs.Common.{◌≡◌, ◌≢◌, ℕ, ℤ, ap, sym, subst, ◌∙◌, refl, length, Some, None, to_z, of_z, w32, rules}
-use Rattle.hx_tree.specs.declared.outcome.End.TheVariants.{Normal, Fault}
-use Rattle.hx_code.specs.declared.word.Exit.TheVariants.{Left, Returned, Faulted}
+use Rattle.std.proofs.Common.{◌≡◌, ap, sym, subst, ◌∙◌}
 use Rattle.hx_code.specs.Code.{RegionView, region_of}
-use Rattle.hx_code.specs.Local.{with_calls, closed}
-use Rattle.hx_code.specs.Machine.{Machine, goes_behind, left_to, returns}
-use Rattle.hx_word.specs.Plain.{machine_of, StandsWell, RunsOutside}
+use Rattle.hx_code.specs.Local.{with_calls}
+use Rattle.hx_code.specs.Machine.{goes_behind, left_to}
 use Rattle.hx_code.proofs.Regions.{the_region}
-use Rattle.hx_word.proofs.MachineSteps.{out_of, stands_out, stands_ended}
-use Rattle.hx_word.proofs.Behind.{some_waits, region_known, left_runs, closed_runs, has_caller, returns_last, returns_on}
+use Rattle.hx_word.proofs.MachineSteps.{out_of}
+use Rattle.hx_word.proofs.Behind.{some_waits, region_known, has_caller}
 use Rattle.hx_word.proofs.state.State.go_behind.Goals as goal
 
 pub region_at-region-requires : goal.region_at-region-requires

@@ -1,17 +1,16 @@
-use Rattle.std.proofs.Common.{arith, ◌≡◌, ◌≢◌, ◌+◌, ◌≤◌, ◌++◌, ℕ, ℤ, List, suc, length, ap, sym, subst, ◌∙◌, refl, Option, Some, None, true}
+use Rattle.std.proofs.Common.{arith, ◌≡◌, ◌≢◌, ℕ, ℤ, List, suc, length, ap, sym, subst, ◌∙◌, refl, Option, Some, None, true}
 use Rattle.std.specs.Prelude.{if◌then◌else◌}
 use Rattle.std.specs.Vec.{with_items, vec_len}
 use Rattle.std.proofs.lemmas.List.{with_items_is}
-use Rattle.hx_tree.specs.declared.limits.TheConstants.{TEXT_LIMIT}
 use Rattle.hx_code.specs.declared.word.Exit.{Exit}
 use Rattle.hx_word.specs.declared.state.State.{State}
 use Rattle.hx_word.specs.declared.iterations.Iterations.{Iterations}
-use Rattle.hx_code.specs.Code.{CodeView, store_words}
+use Rattle.hx_code.specs.Code.{CodeView}
 use Rattle.hx_code.specs.Region.{Opened, RegionState, region_after, result_of}
 use Rattle.hx_code.specs.Machine.{Machine, machine_after, resumed}
 use Rattle.hx_word.specs.Opening.{opened_of}
 use Rattle.hx_word.specs.Running.{running, RunsWell, IsOpened, BeforeLast}
-use Rattle.hx_word.specs.Plain.{machine_of, one_store, Quiet, MayResume, StandsWell}
+use Rattle.hx_word.specs.Plain.{machine_of, one_store, Quiet, MayResume}
 use Rattle.hx_word.proofs.MachineSteps.{out_of}
 use Rattle.hx_word.proofs.Inside.{in_region, in_is, runs_in, stands_in, inside_after, inside_ends, quiet_inside, quiet_next, resumed_none, one_store_none}
 use Rattle.hx_word.proofs.state.State.inside.Goals as goal
@@ -97,7 +96,7 @@ ended code s i st st0 n o e is same ran before inside going =
     let b = subst (λ x. BeforeLast code n (running s.iterations x None)) same (before (is_some o e is)) in
     let k = b.0 in
     let ran' : region_after code (suc k) z ≡ running i st (Some e) =
-      subst (λ j. region_after code j z ≡ running i st (Some e)) b.1 (subst (λ x. region_after code n (running s.iterations x None) ≡ running i st o) same ran ∙ ap (running i st) is) in
+    subst (λ j. region_after code j z ≡ running i st (Some e)) b.1 (subst (λ x. region_after code n (running s.iterations x None) ≡ running i st o) same ran ∙ ap (running i st) is) in
     let over = ap (λ (y : RegionState). y.exit) ran' in (
       ap (machine_after code n) (in_is s inside) ∙ ap (λ j. machine_after code j (in_region m z)) b.1 ∙ inside_ends code k m z e going b.2 over ∙ ap (λ (y : RegionState). resumed code y.opened.region (result_of code e y) m) ran',
       subst (Quiet code n) (sym (in_is s inside)) (subst (λ j. Quiet code j (in_region m z)) (sym b.1) (quiet_next code k m z going b.2)),

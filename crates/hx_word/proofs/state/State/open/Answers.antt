@@ -1,4 +1,4 @@
-use Rattle.std.proofs.Common.{arith, ◌≡◌, ◌+◌, ◌-◌, ◌<◌, ◌≤◌, ℕ, ℤ, List, [], ◌∷◌, Option, Some, None, true, false, length, ap, sym, subst, ◌∙◌, refl}
+use Rattle.std.proofs.Common.{arith, ◌≡◌, ◌+◌, ◌-◌, ◌<◌, ◌≤◌, ℕ, ℤ, List, [], ◌∷◌, Some, None, length, ap, sym, subst, ◌∙◌, refl}
 use Rattle.std.specs.Vec.{with_items, vec_len}
 use Rattle.std.proofs.lemmas.List.{with_items_is}
 use Rattle.std.proofs.lemmas.Option.{slice_get_within}
@@ -6,13 +6,12 @@ use Rattle.hx_tree.specs.declared.limits.TheConstants.{PRIVATE_LIMIT, TEXT_LIMIT
 use Rattle.hx_code.specs.declared.table.Carried.{Carried}
 use Rattle.hx_code.specs.Code.{CodeView, RegionView, region_of, store_words}
 use Rattle.hx_code.specs.Call.{CallView}
-use Rattle.hx_code.specs.Local.{LocalView, depth}
+use Rattle.hx_code.specs.Local.{LocalView}
 use Rattle.hx_code.specs.Region.{Opened, RegionState, region_opening, into_cells}
 use Rattle.hx_code.specs.Machine.{Machine, innermost_words, opened_by, opens}
 use Rattle.hx_word.specs.Carry.{AreCarried}
-use Rattle.hx_word.specs.Opening.{opened_of}
 use Rattle.hx_word.specs.Running.{running, IsOpened, RunsWell}
-use Rattle.hx_word.specs.Plain.{machine_of, one_store, GoesOn, WaitsFor, MayResume, StandsWell, RunsInside}
+use Rattle.hx_word.specs.Plain.{machine_of, one_store, GoesOn, WaitsFor, StandsWell, RunsInside}
 use Rattle.hx_code.proofs.Regions.{the_region, length-into}
 use Rattle.hx_word.proofs.Regions.{are_carried, opening_fits}
 use Rattle.hx_word.proofs.state.State.open.Goals as goal
@@ -60,7 +59,7 @@ opened_as c =
     let made : List ℤ → RegionState → Machine = λ st z. record m { store = st; within = Some z } in
     let carried = c.carried.ensures ∙ ap (λ (g : RegionView). g.carried) (sym (the_region code c.args.region c.region_at.result.now c.region_at.ensures)) in
     let store : new ≡ into_cells code.globals (region_of code c.args.region).carried o.words m.store =
-      c.store_cells.ensures ∙ same_cells _ _ _ _ _ _ _ _ c.globals-globals.ensures carried c.privates.ensures c.deref_mut.ensures.value in
+    c.store_cells.ensures ∙ same_cells _ _ _ _ _ _ _ _ c.globals-globals.ensures carried c.privates.ensures c.deref_mut.ensures.value in
     let same = same_opened c.args.region c.below.result c.calls.result c.len.result c.privates.result.now c.args.self.now.calls c.args.self.now.text.items c.below.ensures c.calls.ensures.calls c.privates.ensures (omega (arith, c.len.ensures)) in
     let len : length m.store ≡ vec_len c.args.self.now.store = omega (arith, c.deref_mut.ensures.len, ap length c.deref_mut.ensures.value) in
     let long : length new ≡ vec_len c.args.self.now.store = ap length store ∙ length-into code.globals (region_of code c.args.region).carried o.words m.store ∙ len in

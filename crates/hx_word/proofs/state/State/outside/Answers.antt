@@ -1,20 +1,20 @@
-use Rattle.std.proofs.Common.{arith, rules, ◌≡◌, ◌≢◌, ◌≤◌, ◌<◌, ◌+◌, ◌-◌, ℕ, length, ap, sym, subst, ◌∙◌, to_z, of_z, w32, refl, true, false, ◌++◌, Some, None, length-set, length-append, vec_len, vec_capacity, zero-add}
+use Rattle.std.proofs.Common.{arith, rules, ◌≡◌, ◌≤◌, ◌<◌, ◌+◌, length, ap, sym, subst, ◌∙◌, to_z, of_z, w32, refl, true, false, ◌++◌, Some, None, length-set, length-append, zero-add}
 use Rattle.std.specs.Prelude.{nat_le, slice_set, slice_index_or, pos}
 use Rattle.std.proofs.lemmas.List.{get_or_default}
 use Rattle.std.proofs.lemmas.Bool.Decides.{nat_tests}
 use Rattle.hx_tree.specs.declared.limits.TheConstants.{TEXT_LIMIT}
 use Rattle.hx_tree.specs.declared.outcome.End.TheVariants.{Normal, Fault}
 use Rattle.hx_tree.specs.declared.outcome.FaultKind.TheVariants.{TextFull}
-use Rattle.hx_code.specs.declared.word.Ask.TheVariants.{Goes, Loads, Stores, Prints, Faults, Enters, Returns}
+use Rattle.hx_code.specs.declared.word.Ask.TheVariants.{Loads, Stores, Prints, Faults, Enters, Returns}
 use Rattle.hx_code.specs.Code.{store_words}
 use Rattle.hx_code.specs.Call.{bytes_of, fault_at}
 use Rattle.hx_code.specs.Local.{LocalView, loaded}
 use Rattle.hx_code.specs.Fits.{FitsLocal, goes_on}
-use Rattle.hx_code.specs.Machine.{Machine, machine_after, opens, prints}
-use Rattle.hx_word.specs.Plain.{machine_of, one_store, RunsOutside, HasRoom, MayResume}
+use Rattle.hx_code.specs.Machine.{Machine, opens, prints}
+use Rattle.hx_word.specs.Plain.{one_store}
 use Rattle.hx_word.specs.Running.{running}
 use Rattle.hx_word.proofs.Asking.{asked_as, isnt_goes}
-use Rattle.hx_word.proofs.MachineSteps.{at_calls, went_on, asked_on, went_quiet, asked_quiet, asked_opens, out_of, out_is, still_out, runs_out, stands_out, stands_ended, may_resume}
+use Rattle.hx_word.proofs.MachineSteps.{at_calls, went_on, asked_on, went_quiet, asked_quiet, asked_opens, out_of, out_is, still_out, runs_out}
 use Rattle.hx_word.proofs.state.State.outside.Goals as goal
 
 pub loop-words-init : goal.loop-words-init

@@ -1,4 +1,4 @@
-use Rattle.std.proofs.Common.{◌-◌, ◌≡◌, ◌+◌, ◌<◌, ◌≤◌, ℕ, None, false, length}
+use Rattle.std.proofs.Common.{◌-◌, ◌≡◌, ◌≤◌, None, false, length}
 use Rattle.hx_tree.specs.declared.limits.TheConstants.{TEXT_LIMIT}
 use Rattle.hx_code.specs.Code.{store_words}
 use Rattle.hx_code.specs.Machine.{machine_after}
