@@ -96,7 +96,7 @@ module _ (p : Program) (code : CodeView) (K : Ground) where
       (k _ (record { memory = with_store h.memory (slice_set h.memory.store b v); is = refl; world = world; room = room; cells_are = cells_are }))
 
   -- the end that the machine shows is that of the world
-  shows : code.globals ≡ words_in (layout_of p) → (m : Machine) (e : End) (memory : Memory) → Ended code m e memory.store (S.before ++ memory.text) (S.turned + memory.turns) → Shows code m (ending e (world_at memory))
+  pub shows : code.globals ≡ words_in (layout_of p) → (m : Machine) (e : End) (memory : Memory) → Ended code m e memory.store (S.before ++ memory.text) (S.turned + memory.turns) → Shows code m (ending e (world_at memory))
   shows globals m e memory h = record {
     finish = h.finish;
     text = h.text;

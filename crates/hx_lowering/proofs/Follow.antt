@@ -9,7 +9,7 @@ use Rattle.hx_code.specs.Machine.{Machine, machine_step, machine_after}
 use Rattle.hx_lowering.specs.Correct.{Shows}
 
 -- steps after steps
-after-sum : (code : CodeView) (j k : ℕ) (m : Machine) → machine_after code (k + j) m ≡ machine_after code k (machine_after code j m)
+pub after-sum : (code : CodeView) (j k : ℕ) (m : Machine) → machine_after code (k + j) m ≡ machine_after code k (machine_after code j m)
 after-sum code j zero m = let e : zero + j ≡ j = omega arith in ap (λ n. machine_after code n m) e
 after-sum code j (suc k) m =
     let e : suc k + j ≡ suc (k + j) = omega arith in

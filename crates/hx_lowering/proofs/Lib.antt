@@ -15,4 +15,10 @@ pub mod Regions
 pub mod Marked
 pub mod Flat
 pub mod Functions
+pub mod Placed
+pub mod Opening
+pub mod Begins
+pub mod Programs
+pub mod Locals
+pub mod Cells
 pub mod Statements

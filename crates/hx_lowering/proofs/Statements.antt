@@ -63,7 +63,7 @@ returned_ok returns.Void e here ok = absurd ok
 
 module _ (p : Program) (code : CodeView) (words : code.globals ≡ words_in (layout_of p)) where
   -- the end of some parts of a block
-  abbrev PartsEnd : Scene → Scopes → ℕ → Exit × Environment → World → Machine → Type 0
+  abbrev pub PartsEnd : Scene → Scopes → ℕ → Exit × Environment → World → Machine → Type 0
   PartsEnd s outer place out w m = EndsBy p code s outer place out.0 (leave_scope out.1) w m
 
   goes_on_here : (s : Scene) (scopes : Scopes) (n place : ℕ) (ps cells : List ℤ) (w : World) (m : Machine) → At p code s.ground place ps [] cells w m

@@ -3,3 +3,4 @@ pub mod Lines
 pub mod Draft
 pub mod Correct
 pub mod Serves
+pub mod Laws
