@@ -1,5 +1,5 @@
 -- Code of the parts of a draft.
-use Rattle.std.proofs.Common.{◌<◌, ◌^◌, ◌∙◌, ap, sym, subst, ◌≡◌, ℕ, List, Option, length, map, option_map}
+use Rattle.std.proofs.Common.{true, ◌<◌, ◌^◌, ◌∙◌, ap, sym, subst, ◌≡◌, ℕ, List, Option, length, map, option_map}
 use Rattle.std.specs.Prelude.{ℤ}
 use Rattle.hx_check.specs.declared.resolved.Words.{Words}
 use Rattle.hx_code.specs.Code.{CodeView}
@@ -10,7 +10,10 @@ use Rattle.hx_check.specs.Resolved as resolved
 use Rattle.hx_check.specs.Resolve.{resolve}
 use Rattle.hx_code.specs.Valid.{IsValid}
 use Rattle.hx_lowered.specs.Lowered.{LoweredCodeIsValid}
+use Rattle.hx_lowering.specs.Correct.{Behaves}
 use Rattle.hx_lowering.specs.Draft.{Draft, code_of}
+use Rattle.hx_lowering.specs.Laws.{CodeBehaves}
+use Rattle.hx_lowering.specs.Serves.{serves}
 use Rattle.hx_lowering.specs.Lines.{array_of}
 
 abbrev pub code_from : Draft → List ℤ → ℕ → Option Words → Option ℕ → CodeView
@@ -59,3 +62,11 @@ pub is_valid : LoweredCodeIsValid → (p : tree.Program) (q : resolved.Program) 
 is_valid law p q code accepted same is few =
     let all : code ≡ code_of (resolve p) = is ∙ ap code_of same in
     subst IsValid (sym all) (law p accepted (subst (λ (c : CodeView). length c.words < 2 ^ 32) all few))
+
+-- the code of a program that is served does what the program means
+pub does : CodeBehaves → (p : tree.Program) (q : resolved.Program) (code : CodeView)
+    → IsAccepted p → q ≡ resolve p → code ≡ code_of q → serves q ≡ true → Behaves p code
+does law p q code accepted same is served =
+    let all : code ≡ code_of (resolve p) = is ∙ ap code_of same in
+    let served_so : serves (resolve p) ≡ true = sym (ap serves same) ∙ served in
+    subst (Behaves p) (sym all) (law p accepted served_so)

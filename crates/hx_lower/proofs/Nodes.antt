@@ -1,5 +1,5 @@
 -- Nodes that hold a list of nodes, as resolved trees; and lists of nodes, one behind another.
-use Rattle.std.proofs.Common.{Global, ◌≡◌, map, List, [], ◌∷◌, ◌++◌, refl, ap, ◌∙◌, length, ◌+◌, arith}
+use Rattle.std.proofs.Common.{Global, ◌≡◌, map, List, [], ◌∷◌, refl, ap, ◌∙◌, length, ◌+◌, arith}
 use Rattle.std.specs.Prelude.{Vec}
 use Rattle.hx_tree.specs.declared.token.Pos.{Pos}
 use Rattle.std.specs.Prelude.{ℕ}

@@ -1,5 +1,7 @@
 // Words of small programs, worked out by hand.
 
+mod whole;
+
 use crate::program::words_and_tables;
 use hx_check::resolved::{
     Assignment, Clauses, Expr, Function, LoopKind, Place, Program, Region, Simple, Stmt,

@@ -1,4 +1,4 @@
-use Rattle.std.proofs.Common.{rules, ◌≡◌, ◌+◌, map, ap, ◌∙◌, length}
+use Rattle.std.proofs.Common.{rules, ◌≡◌, map, ap, ◌∙◌, length}
 use Rattle.hx_check.specs.Resolved as resolved
 use Rattle.hx_check.specs.Views.{resolved_expr}
 use Rattle.hx_lowering.specs.Lines.{count}

@@ -1,4 +1,4 @@
-use Rattle.std.proofs.Common.{rules, ◌≡◌, map, sym, ap, ◌∙◌, ◌+◌}
+use Rattle.std.proofs.Common.{rules, ◌≡◌, map, ap, ◌∙◌}
 use Rattle.hx_check.specs.Resolved.{stmts}
 use Rattle.hx_check.specs.Views.{resolved_stmt}
 use Rattle.hx_lowering.specs.Size as size
