@@ -29,7 +29,7 @@ fn serves_functions(functions: &[Function]) -> bool
 fn serves_function(function: &Function) -> bool
     ensures { result ≡ spec.serves_function (resolved_function function.now) }
 {
-    function.privates == 0 && serves_stmts(&function.body)
+    serves_stmts(&function.body)
 }
 
 #[cycle(serves)]
@@ -86,7 +86,7 @@ fn serves_simple(s: &Simple) -> bool
     ensures { result ≡ spec.serves_simple (resolved_simple s.now) }
 {
     match s {
-        Simple::Declare(_, _) => false,
+        Simple::Declare(_, e) => serves_expr(e),
         Simple::Assign(a) => serves_assignment(a),
     }
 }
@@ -122,7 +122,7 @@ fn serves_place(place: &Place) -> bool
     ensures { result ≡ spec.serves_place (resolved_place place.now) }
 {
     match place {
-        Place::Private(_) => false,
+        Place::Private(_) => true,
         Place::Word(_) => true,
         Place::Element(_, _, index) => serves_expr(index),
     }

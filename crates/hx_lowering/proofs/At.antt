@@ -6,7 +6,7 @@ use Rattle.hx_tree.specs.declared.outcome.Fault.{Fault}
 use Rattle.hx_tree.specs.declared.outcome.FaultKind.TheVariants.{TextFull}
 use Rattle.hx_tree.specs.declared.outcome.End.{End}
 use Rattle.hx_tree.specs.declared.outcome.End.TheVariants as end
-use Rattle.hx_tree.specs.declared.limits.TheConstants.{TEXT_LIMIT}
+use Rattle.hx_tree.specs.declared.limits.TheConstants.{TEXT_LIMIT, CELL_LIMIT}
 use Rattle.hx_tree.specs.Tree.{Program}
 use Rattle.hx_tree.specs.World.{World, Answer, Gives, Faults, Unfinished, Run, and_then, print_bytes, ◌>>=◌}
 use Rattle.hx_tree.specs.Meaning.{Ending, ending, globals_of}
@@ -43,11 +43,15 @@ module _ (p : Program) (code : CodeView) (K : Ground) where
     pub memory : Memory
     pub is : m ≡ S.here (call_at place ps os) memory
     pub world : w ≡ world_at memory
-    pub room : words_in (layout_of p) ≤ length memory.store
+    pub room : words_in (layout_of p) + CELL_LIMIT ≤ length memory.store
     pub cells_are : is_active K ≡ true → drop (words_in (layout_of p)) memory.store ≡ cells
 
   pub at_place : (place place' : ℕ) (ps os cells : List ℤ) (w : World) (m : Machine) → place ≡ place' → At place ps os cells w m → At place' ps os cells w m
   at_place place place' ps os cells w m e h = subst (λ q. At q ps os cells w m) e h
+
+  -- the globals lie in the store
+  pub roomy : (place : ℕ) (ps os cells : List ℤ) (w : World) (m : Machine) (h : At place ps os cells w m) → words_in (layout_of p) ≤ length h.memory.store
+  roomy place ps os cells w m h = let r = h.room in omega (arith, r)
 
   pub not_over : (place : ℕ) (ps os cells : List ℤ) (w : World) (m : Machine) → At place ps os cells w m → m.end ≡ None
   not_over place ps os cells w m h = ap (λ (x : Machine). x.end) h.is ∙ S.running _ _
@@ -87,7 +91,7 @@ module _ (p : Program) (code : CodeView) (K : Ground) where
   pub stores_to : {A : Type 0} (n place place' : ℕ) (ps os os' cells cells' : List ℤ) (w w' : World) (m : Machine) (word : Word) (b : ℕ) (v : ℤ) (a : Answer A) (Done : A → World → Machine → Type 0)
       → (h : At place ps os cells w m) → slice_get code.words place ≡ Some word → wants word (call_at place ps os) ≡ Asks (ask.Stores b v) (call_at place' ps os')
       → w' ≡ world_at (with_store h.memory (slice_set h.memory.store b v))
-      → words_in (layout_of p) ≤ length (slice_set h.memory.store b v)
+      → words_in (layout_of p) + CELL_LIMIT ≤ length (slice_set h.memory.store b v)
       → (is_active K ≡ true → drop (words_in (layout_of p)) (slice_set h.memory.store b v) ≡ cells')
       → ((m' : Machine) → At place' ps os' cells' w' m' → Follows code n m' a Done) → Follows code n m a Done
   stores_to n place place' ps os os' cells cells' w w' m word b v a Done h stands asks world room cells_are k =

@@ -175,8 +175,8 @@ module _ (p : Program) (accepted : IsAccepted p) where
       ∙ laid gs (with_count input) (counted_fits input gs (filled_fits input gs distinct fits room)) [] (replicate CELL_LIMIT (pos 0)) 0 refl
       ∙ sym (map_same (λ g. words_at_start input g.name.text g.shape) (with_count input) gs (begins_so input))
 
-  pub has_room : (input : List ℤ) → InputFits p input → words_in (layout_of p) ≤ length (code.opening_store (code_of (resolve p)) input)
+  pub has_room : (input : List ℤ) → InputFits p input → words_in (layout_of p) + CELL_LIMIT ≤ length (code.opening_store (code_of (resolve p)) input)
   has_room input room =
       let gs = globals_of p in
       let len = words_fit (with_count input) gs (counted_fits input gs (filled_fits input gs distinct fits room)) in
-      omega (arith, ap length (store_is input room), length-append (flat_map (with_count input) gs) (replicate CELL_LIMIT (pos 0)), len)
+      omega (arith, ap length (store_is input room), length-append (flat_map (with_count input) gs) (replicate CELL_LIMIT (pos 0)), length-replicate CELL_LIMIT (pos 0), len)

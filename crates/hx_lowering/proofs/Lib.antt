@@ -21,4 +21,6 @@ pub mod Begins
 pub mod Programs
 pub mod Locals
 pub mod Cells
+pub mod Taken
+pub mod Declares
 pub mod Statements

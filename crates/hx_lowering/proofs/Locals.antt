@@ -1,6 +1,7 @@
 -- Private words that scopes name: each but once, and all below the next one.
-use Rattle.std.proofs.Common.{◌≡◌, ℕ, zero, suc, ◌+◌, ◌≤◌, ◌<◌, Bool, true, false, List, [], ◌∷◌, ◌++◌, length, Option, Some, None, ℤ, pos, refl, sym, ap, subst, ◌∙◌, arith, if◌then◌else◌}
+use Rattle.std.proofs.Common.{◌≡◌, ℕ, zero, suc, ◌+◌, ◌≤◌, ◌<◌, Bool, true, false, List, [], ◌∷◌, ◌++◌, length, Option, Some, None, ℤ, pos, refl, sym, ap, subst, ◌∙◌, arith, if◌then◌else◌, ⊎_elim}
 use Rattle.std.specs.Prelude.{bytes_eq, is_some, option_map, zip, map, slice_index_or}
+use Rattle.std.proofs.lemmas.Bool.{cases_lt}
 use Rattle.hx_tree.specs.Tree.{Name, LocalDecl}
 use Rattle.hx_tree.specs.World.{Map, look_up, update, Environment, local_value, set_local, declare, first_of}
 use Rattle.hx_tree.specs.Meaning.{texts_of}
@@ -152,6 +153,13 @@ absent_outer ((y, i) ∷ rest) ys x k h a = go (λ h'. absent_outer rest ys x k 
     go : (look_up rest x ≡ Some k → Absent k ys) → (b : Bool) → (if b then Some i else look_up rest x) ≡ Some k → Absent k ys
     go more true h = let same : i ≡ k = cc in subst (λ q. Absent q ys) same (absent_second i (numbers_in rest) ys a.0)
     go more false h = more h
+
+pub number_below : (n : ℕ) (scopes : Scopes) (x : List ℕ) (k : ℕ) → private_word scopes x ≡ Some k → Below n (numbers_of scopes) → k < n
+number_below n scopes x k h b = ⊎_elim (λ lt. lt) (λ le. absurd (there scopes x k h (far n (numbers_of scopes) k le b))) (cases_lt k n)
+  where
+    far : (n : ℕ) (ks : List ℕ) (k : ℕ) → n ≤ k → Below n ks → Absent k ks
+    far n [] k le b = tt
+    far n (j ∷ ks) k le b = let lt = b.0 in ((λ e. omega arith), far n ks k le b.1)
 
 -- a local gets another value
 pub set_is : (scopes : Scopes) (x : List ℕ) (k : ℕ) (f g : ℕ → ℤ) (z : ℤ) → private_word scopes x ≡ Some k → Apart (numbers_of scopes) → g k ≡ z → ((j : ℕ) → (j ≡ k → ⊥) → f j ≡ g j)

@@ -11,7 +11,7 @@ use Rattle.hx_tree.specs.Accepted.{Surroundings, AcceptsExpr, AcceptsAssignment,
 use Rattle.hx_check.specs.Resolved as resolved
 use Rattle.hx_check.specs.Resolved.{Clauses, Simple}
 use Rattle.hx_check.specs.Symbols.{Scopes, symbols_of}
-use Rattle.hx_check.specs.Carried.{expr_reads, assignment_reads, if_any}
+use Rattle.hx_check.specs.Carried.{expr_reads, assignment_reads, assigns, if_any}
 use Rattle.hx_check.specs.Resolve.{resolve_expr, resolve_assignment}
 use Rattle.hx_code.specs.declared.word.Word.TheVariants.{Jump, JumpFalse}
 use Rattle.hx_code.specs.Code.{CodeView}
@@ -28,12 +28,13 @@ use Rattle.hx_lowering.proofs.Stand.{Has, has_before, word_stands, length-put}
 use Rattle.hx_lowering.proofs.At.{layout_of, At, at_place, turns_back}
 use Rattle.hx_lowering.proofs.Names.{env_of, Around}
 use Rattle.hx_lowering.proofs.Values.{Leaves, jump_follows}
-use Rattle.hx_lowering.proofs.Scene.{Scene, Fair, Stands, Came, EndsBy, Ends, held, turns_follow}
-use Rattle.hx_lowering.proofs.Assigns.{Free, value_here, assign_follows, Behind}
+use Rattle.hx_lowering.proofs.Scene.{Scene, Fair, Stands, Holds, Came, EndsBy, Ends, held, turns_follow}
+use Rattle.hx_lowering.proofs.Assigns.{Free, Loose, value_here, assign_follows, Behind}
+use Rattle.hx_lowering.proofs.Locals.{Tidy}
 use Rattle.hx_lowering.proofs.Drafts.{HasDraft, has_word, has_lines, has_step, has_test, has_stmt, length-test, length-step, length-stmt}
 
 module _ (p : Program) (code : CodeView) (words : code.globals ≡ words_in (layout_of p)) where
-  module _ (s : Scene) (fair : Fair p code s) (scopes : Scopes) (here : Surroundings) (around : Around p scopes here) (call : Calling) where
+  module _ (s : Scene) (fair : Fair p code s) (next : ℕ) (scopes : Scopes) (tidy : Tidy next scopes) (fits : next ≤ s.privates) (here : Surroundings) (around : Around p scopes here) (call : Calling) where
     -- a test and its jump
     pub test_here : {A : Type 0} (o : Option tree.Expr) → IfThere AcceptsExpr o here → IsTrue (serves_test (option_map (λ e. resolve_expr e (symbols_of p) scopes) o))
         → Free s (λ k. if_any (expr_reads k) (option_map (λ e. resolve_expr e (symbols_of p) scopes) o))
@@ -46,20 +47,21 @@ module _ (p : Program) (code : CodeView) (words : code.globals ≡ words_in (lay
     test_here (Some e) ok served free n exit ps cells lines has w m at f g Done kf kg =
         let es = expr_lines (resolve_expr e (symbols_of p) scopes) s.version 0 lines in
         follows_then code n m (value e call (env_of scopes (held s ps cells)) w) (λ v. if is_zero v then f else g) (Leaves p code s.ground s.version words fair.globals fair.carries es ps [] cells) Done
-        (value_here p code words s fair scopes here around call e ok served free n 0 ps [] cells lines (has_before code s.version 1 (JumpFalse exit) es has) w m at)
+        (value_here p code words s fair next scopes tidy fits here around call e ok served free n 0 ps [] cells lines (has_before code s.version 1 (JumpFalse exit) es has) w m at)
         (λ x w' m' at'. jump_follows p code s.ground s.version words fair.globals fair.carries n 1 exit x ps [] cells w' m' es f g Done has at' (kf w') (kg w'))
 
     -- a step
     pub step_here : (o : Option tree.Assignment) → IfThere AcceptsAssignment o here → IsTrue (serves_step (option_map (λ a. resolve_assignment a (symbols_of p) scopes) o))
         → Free s (λ k. if_any (assignment_reads k) (option_map (λ a. resolve_assignment a (symbols_of p) scopes) o))
+        → Loose s (λ k. if_any (assigns k) (option_map (λ a. resolve_assignment a (symbols_of p) scopes) o))
         → (n : ℕ) (lines : List Line) → Has code (step_lines (option_map (λ a. resolve_assignment a (symbols_of p) scopes) o) s.version lines)
         → (env : Environment) (w : World) (m : Machine) → Stands p code s scopes (length lines) env w m
         → Follows code n m (step_of o call env w) (λ env' w' m'. Stands p code s scopes (length (step_lines (option_map (λ a. resolve_assignment a (symbols_of p) scopes) o) s.version lines)) env' w' m')
-    step_here None ok served free n lines has env w m stands = at_once code m (λ m'. Stands p code s scopes (length lines) env w m') stands
-    step_here (Some a) ok served free n lines has env w m stands =
+    step_here None ok served free loose n lines has env w m stands = at_once code m (λ m'. Stands p code s scopes (length lines) env w m') stands
+    step_here (Some a) ok served free loose n lines has env w m stands =
         subst (λ x. Follows code n m (step_of (Some a) call x w) (λ env' w' m'. Stands p code s scopes (length (step_lines (Some (resolve_assignment a (symbols_of p) scopes)) s.version lines)) env' w' m'))
         (sym stands.env_is)
-        (assign_follows p code words s fair scopes here around call a ok served free n stands.ps stands.cells lines has w m stands.at)
+        (assign_follows p code words s fair next scopes tidy fits here around call a ok served free loose n stands.ps stands.cells stands.holds lines has w m stands.at)
 
   -- ---- a plain loop
 
@@ -80,20 +82,20 @@ module _ (p : Program) (code : CodeView) (words : code.globals ≡ words_in (lay
     step = option_map (λ a. resolve_assignment a (symbols_of p) scopes) step;
   }
 
-  pub plain_follows : (s : Scene) (marked : Bool) (c : Context) (scopes : Scopes) (here : Surroundings) → Around p scopes here
+  pub plain_follows : (s : Scene) (marked : Bool) (c : Context) (next : ℕ) (scopes : Scopes) → Tidy next scopes → next ≤ s.privates → (here : Surroundings) → Around p scopes here
       → (init : List Simple) (test : Option tree.Expr) (step : Option tree.Assignment) (rb : resolved.Stmt) (body : Environment → Effect) (counted : Bool) → counted ≡ false
       → IfThere AcceptsExpr test here → IfThere AcceptsAssignment step here
       → IsTrue (serves_test (clauses_of scopes init test step).test) → IsTrue (serves_step (clauses_of scopes init test step).step)
-      → Free s (λ k. if_any (expr_reads k) (clauses_of scopes init test step).test) → Free s (λ k. if_any (assignment_reads k) (clauses_of scopes init test step).step)
+      → Free s (λ k. if_any (expr_reads k) (clauses_of scopes init test step).test) → Free s (λ k. if_any (assignment_reads k) (clauses_of scopes init test step).step) → Loose s (λ k. if_any (assigns k) (clauses_of scopes init test step).step)
       → (d : Draft) → HasDraft code (plain_draft (clauses_of scopes init test step) (stmt_size rb) (λ to d'. stmt_draft rb s.version to d') s.version d)
       → Fair p code (within s (targets (clauses_of scopes init test step) (stmt_size rb) (length d.lines)) marked c)
-      → ((ps cells : List ℤ) (w : World) (m : Machine) → At p code s.ground (length (tested (clauses_of scopes init test step) (length d.lines + turn_size (clauses_of scopes init test step) (stmt_size rb) + 1) s.version d).lines) ps [] cells w m
+      → ((ps cells : List ℤ) → Holds s ps cells → (w : World) (m : Machine) → At p code s.ground (length (tested (clauses_of scopes init test step) (length d.lines + turn_size (clauses_of scopes init test step) (stmt_size rb) + 1) s.version d).lines) ps [] cells w m
         → HasDraft code (stmt_draft rb s.version (targets (clauses_of scopes init test step) (stmt_size rb) (length d.lines)) (tested (clauses_of scopes init test step) (length d.lines + turn_size (clauses_of scopes init test step) (stmt_size rb) + 1) s.version d))
         → Follows code c.turns m (body (env_of scopes (held s ps cells)) w) (Ends p code (within s (targets (clauses_of scopes init test step) (stmt_size rb) (length d.lines)) marked c) scopes (length (stmt_draft rb s.version (targets (clauses_of scopes init test step) (stmt_size rb) (length d.lines)) (tested (clauses_of scopes init test step) (length d.lines + turn_size (clauses_of scopes init test step) (stmt_size rb) + 1) s.version d)).lines)))
-      → (ps cells : List ℤ) (w : World) (m : Machine) → At p code s.ground (length d.lines) ps [] cells w m
+      → (ps cells : List ℤ) → Holds s ps cells → (w : World) (m : Machine) → At p code s.ground (length d.lines) ps [] cells w m
       → Follows code c.turns m (loop c.turns counted (value_or (pos 1) test (call_in c)) body (step_of step (call_in c)) (env_of scopes (held s ps cells)) w)
         (Ends p code s scopes (length (plain_draft (clauses_of scopes init test step) (stmt_size rb) (λ to d'. stmt_draft rb s.version to d') s.version d).lines))
-  plain_follows s marked c scopes here around init test step rb body counted none ok_test ok_step served_test served_step free_test free_step d has fair hb ps cells w m at =
+  plain_follows s marked c next scopes tidy fits here around init test step rb body counted none ok_test ok_step served_test served_step free_test free_step loose_step d has fair hb ps cells holds w m at =
       let cs = clauses_of scopes init test step in
       let v = s.version in
       let size = stmt_size rb in
@@ -105,6 +107,8 @@ module _ (p : Program) (code : CodeView) (words : code.globals ≡ words_in (lay
       let d3 = stepped cs v d2 in
       let d4 = put_word v 0 (Jump start) d3 in
       let si = within s T marked c in
+      let inner : (ps' cells' : List ℤ) → Holds s ps' cells' → Holds si ps' cells' = λ ps' cells' h. record { long = h.long; keeps = h.keeps; freezes = h.freezes } in
+      let outer_holds : (ps' cells' : List ℤ) → Holds si ps' cells' → Holds s ps' cells' = λ ps' cells' h. record { long = h.long; keeps = h.keeps; freezes = h.freezes } in
       let has3 = has_word code v 0 (Jump start) d3 has in
       let has2 = has_lines code d2 d3.lines has3 (has_step code cs.step v d2.lines) in
       let has1 = has_stmt code rb v T d1 has2 in
@@ -114,12 +118,12 @@ module _ (p : Program) (code : CodeView) (words : code.globals ≡ words_in (lay
       let env0 = env_of scopes (held s ps cells) in
       subst (λ b. Follows code c.turns m (loop c.turns b (value_or (pos 1) test (call_in c)) body (step_of step (call_in c)) env0 w) Done) (sym none)
       (turns_follow p code si scopes start (length d1.lines) (length d3.lines) false (value_or (pos 1) test (call_in c)) body (step_of step (call_in c)) Done
-      (λ n le ps' cells' w' m' at' f g kf kg. test_here si fair scopes here around (call_in c) test ok_test served_test free_test n exit ps' cells' d.lines has1.lines w' m' at' f g Done kf kg)
-      (λ ps' cells' w' m' at'. subst (λ q. Follows code c.turns m' (body (env_of scopes (held s ps' cells')) w') (Ends p code si scopes q)) at_step (hb ps' cells' w' m' at' has2))
-      (λ env' w' m' stands. step_here si fair scopes here around (call_in c) step ok_step served_step free_step c.turns d2.lines has3.lines env' w' m'
+      (λ n le ps' cells' holds' w' m' at' f g kf kg. test_here si fair next scopes tidy fits here around (call_in c) test ok_test served_test free_test n exit ps' cells' d.lines has1.lines w' m' at' f g Done kf kg)
+      (λ ps' cells' holds' w' m' at'. subst (λ q. Follows code c.turns m' (body (env_of scopes (held s ps' cells')) w') (Ends p code si scopes q)) at_step (hb ps' cells' (outer_holds ps' cells' holds') w' m' at' has2))
+      (λ env' w' m' stands. step_here si fair next scopes tidy fits here around (call_in c) step ok_step served_step free_step loose_step c.turns d2.lines has3.lines env' w' m'
         (subst (λ q. Stands p code si scopes q env' w' m') (sym at_step) stands))
       (λ n env' w' m' next stands k. turns_back p code s.ground n (length d3.lines) start stands.ps stands.ps [] [] stands.cells w' m' (Jump start) (next env' w') Done stands.at (word_stands code v 0 (Jump start) d3.lines has.lines) refl
-        (λ m'' at''. k stands.ps stands.cells w' m'' at'' stands.env_is))
-      (λ n env' w' m' stands. at_once code m' (λ m''. Stands p code s scopes (length d4.lines) env' w' m'') (record { ps = stands.ps; cells = stands.cells; at = at_place p code s.ground exit (length d4.lines) stands.ps [] stands.cells w' m' at_exit stands.at; env_is = stands.env_is }))
-      (λ n z env' w' m' came. at_once code m' (λ m''. Came p code s z w' m'') (record { memory = came.memory; back = came.back; world = came.world; room = came.room }))
-      c.turns (omega arith) ps cells w m at)
+        (λ m'' at''. k stands.ps stands.cells stands.holds w' m'' at'' stands.env_is))
+      (λ n env' w' m' stands. at_once code m' (λ m''. Stands p code s scopes (length d4.lines) env' w' m'') (record { ps = stands.ps; cells = stands.cells; holds = outer_holds stands.ps stands.cells stands.holds; at = at_place p code s.ground exit (length d4.lines) stands.ps [] stands.cells w' m' at_exit stands.at; env_is = stands.env_is }))
+      (λ n z env' w' m' came. at_once code m' (λ m''. Came p code s z w' m'') (record { memory = came.memory; back = came.back; world = came.world; room = came.room; cells_are = came.cells_are }))
+      c.turns (omega arith) ps cells (inner ps cells holds) w m at)

@@ -2,6 +2,8 @@
 use Rattle.std.proofs.Common.{◌≡◌, ℕ, zero, suc, ◌+◌, ◌-◌, ◌≤◌, ◌<◌, Bool, true, false, List, [], ◌∷◌, ◌++◌, length, map, drop, Option, Some, None, ℤ, pos, refl, sym, ap, subst, ◌∙◌, arith, if◌then◌else◌, ⊎_elim}
 use Rattle.std.specs.Prelude.{bytes_eq, codes, flat_map, zip, slice_get, slice_index_or, IsTrue, nat_eq, ◌&&◌, All, option_map}
 use Rattle.std.proofs.lemmas.Bool.{cases_lt}
+use Rattle.std.proofs.lemmas.List.{length-replicate}
+use Rattle.hx_tree.specs.declared.limits.TheConstants.{PRIVATE_LIMIT}
 use Rattle.std.proofs.lemmas.Bool.Decides.{Decides-eqb}
 use Rattle.std.proofs.lemmas.Option.{slice_get-map, get_or_from_slice_get}
 use Rattle.hx_tree.specs.declared.tree.Returns.TheVariants as returns
@@ -36,9 +38,10 @@ use Rattle.hx_lowering.proofs.Stand.{words_of, spots_of, has_before, word_stands
 use Rattle.hx_lowering.proofs.At.{layout_of, call_at, world_at, At, at_place, shows}
 use Rattle.hx_lowering.proofs.Names.{env_of, names_of, names_in, Around}
 use Rattle.hx_lowering.proofs.Values.{and_left, and_right, word_goes}
-use Rattle.hx_lowering.proofs.Scene.{Scene, Fair, Stands, Came, EndsBy, held}
+use Rattle.hx_lowering.proofs.Scene.{Scene, Fair, Stands, Came, Holds, EndsBy, held}
+use Rattle.hx_lowering.proofs.Locals.{Tidy}
 use Rattle.hx_lowering.proofs.Drafts.{HasDraft, has_word}
-use Rattle.hx_lowering.proofs.Statements.{Bare, PartsEnd, parts_follow}
+use Rattle.hx_lowering.proofs.Statements.{PartsEnd, parts_follow}
 use Rattle.hx_lowering.proofs.Functions.{IsFunction, function_is}
 use Rattle.hx_lowering.proofs.Placed.{IsPlaced, placed, body_of, has_end, has_body}
 use Rattle.hx_lowering.proofs.Begins.{globals_are, begins, has_room}
@@ -126,13 +129,19 @@ module _ (p : Program) (accepted : IsAccepted p) (served : IsTrue (serves (resol
   abbrev V : Version
   V = plain_version (length main_placed.before.functions) C.globals
 
+  function_ok : AcceptsFunction (kinds_of p) main_it.it
+  function_ok = accepted_at (kinds_of p) p.items main_it.number main_it.it accepted.items main_it.at
+
   abbrev scene : ℕ → Scene
   scene n = record {
-    ground = Outside []; version = V; fixed = λ k. None; to = no_targets; privates = private_words main_it.it; is_marked = false; in_loop = false; context = main_context p n;
+    ground = Outside []; version = V; fixed = λ k. None; kept = λ k. None; frozen = None; to = no_targets; privates = private_words main_it.it; is_marked = false; in_loop = false; context = main_context p n;
   }
 
   fair : (n : ℕ) → Fair p C (scene n)
-  fair n = record { globals = words; carries = λ k cell e. absurd cc; active = refl; marked = λ e. e }
+  fair n = record {
+    globals = words; carries = λ k cell e. absurd cc; active = refl; marked = λ e. e; loose = λ e k. (refl, refl); thawed = λ e. refl;
+    apart = λ j k cell e f. absurd cc; small = λ k cell e. absurd cc; still = λ vs e k. refl; few = function_ok.few_private;
+  }
 
   abbrev body : Draft
   body = body_of C F C.globals main_placed.before
@@ -172,25 +181,25 @@ module _ (p : Program) (accepted : IsAccepted p) (served : IsTrue (serves (resol
       (subst (λ env. Follows C n (opening_machine C input) ((effects main_it.it.body (main_context p n) env >>= (λ out. gives (returned out.0))) (opening_world p input)) Over) (sym env_is)
       (follows_then C n (opening_machine C input) (effects main_it.it.body (main_context p n) (env_of (scope ∷ []) (held (scene n) blank cells)) (opening_world p input)) (λ out. gives (returned out.0))
         (PartsEnd p C words (scene n) [] (length body.lines)) Over
-      (parts_follow p C words main_it.it.body (scene n) (fair n) scope [] here around (λ e. e) (scope_is, tt) (length (param_names main_it.it.params)) function_ok.body
-        (and_right (nat_eq F.privates 0) (serves_stmts F.body) (served_at (resolve p).functions main_it.number F served at_number))
-        (λ k e. refl) main_placed.before (has_body C F C.globals main_placed.before main_placed.stands) blank cells (opening_world p input) (opening_machine C input) start)
+      (parts_follow p C words main_it.it.body (scene n) (fair n) (scope ∷ []) [] (scope, refl) here around (λ e. e) (length (param_names main_it.it.params)) tidy (omega arith) function_ok.body
+        (served_at (resolve p).functions main_it.number F served at_number)
+        (λ k e. refl) (λ k e. (refl, refl)) (λ k e. (refl, refl)) main_placed.before (has_body C F C.globals main_placed.before main_placed.stands) blank cells holds (opening_world p input) (opening_machine C input) start)
       (λ out w m ends. ended n out.0 _ w m ends)))
     where
       scope : Map ℕ
       scope = numbered (param_names main_it.it.params) 0
-      scope_is : scope ≡ []
-      scope_is = ap (λ xs. numbered xs 0) no_params
+      tidy : Tidy (length (param_names main_it.it.params)) (scope ∷ [])
+      tidy = subst (λ xs. Tidy (length xs) (numbered xs 0 ∷ [])) (sym no_params) (record { apart = tt; below = tt })
       here : Surroundings
       here = at_start (kinds_of p) main_it.it
-      function_ok : AcceptsFunction (kinds_of p) main_it.it
-      function_ok = accepted_at (kinds_of p) p.items main_it.number main_it.it accepted.items main_it.at
       around : Around p (scope ∷ []) here
       around = record { kinds = refl; names = ap (λ xs. texts_of xs ∷ []) no_params ∙ sym (ap (λ xs. names_in (numbered xs 0) ∷ []) no_params) }
       memory : Memory
       memory = record { store = opening_store C input; text = []; turns = 0; regions = 0; iteration = 0 }
       cells : List ℤ
       cells = drop (words_in (layout_of p)) (opening_store C input)
+      holds : Holds (scene n) blank cells
+      holds = record { long = length-replicate PRIVATE_LIMIT (pos 0); keeps = λ k z e. absurd cc; freezes = λ vs e. absurd cc }
       env_is : zip (texts_of (param_names main_it.it.params)) [] ∷ [] ≡ env_of (scope ∷ []) (held (scene n) blank cells)
       env_is = ap (λ xs. zip (texts_of xs) [] ∷ []) no_params ∙ sym (ap (λ xs. env_of (numbered xs 0 ∷ []) (held (scene n) blank cells)) no_params)
       start : At p C (Outside []) (length main_placed.before.lines) blank [] cells (opening_world p input) (opening_machine C input)

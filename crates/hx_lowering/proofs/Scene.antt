@@ -1,6 +1,7 @@
 -- What a statement's words do, in terms of where they may end.
-use Rattle.std.proofs.Common.{◌≡◌, ℕ, zero, suc, ◌+◌, ◌≤◌, Bool, true, false, List, [], ◌∷◌, length, take, drop, Option, Some, None, ℤ, pos, refl, sym, ap, subst, ◌∙◌, arith, if◌then◌else◌}
+use Rattle.std.proofs.Common.{◌≡◌, ℕ, zero, suc, ◌+◌, ◌≤◌, ◌<◌, Bool, true, false, List, [], ◌∷◌, length, take, drop, Option, Some, None, ℤ, pos, refl, sym, ap, subst, ◌∙◌, arith, if◌then◌else◌}
 use Rattle.std.specs.Prelude.{slice_get, slice_index_or, IsTrue}
+use Rattle.hx_tree.specs.declared.limits.TheConstants.{CELL_LIMIT, PRIVATE_LIMIT}
 use Rattle.hx_tree.specs.Numbers.{is_zero}
 use Rattle.hx_tree.specs.Tree.{Program}
 use Rattle.hx_tree.specs.World.{World, Answer, Gives, Faults, Unfinished, Run, ◌>>=◌, gives, unfinished, Environment, count_turn}
@@ -18,13 +19,15 @@ use Rattle.hx_lowering.proofs.At.{layout_of, world_at, At, not_over}
 use Rattle.hx_lowering.proofs.Names.{env_of}
 use Rattle.hx_lowering.proofs.Values.{value_at}
 
--- where a statement stands: the calls around it, the version of its words, the private words that keep a value which no word
--- reads, where `break` and `continue` go, how many private words its function has, whether a marked loop of it is around,
--- whether a loop is, and the context of its meaning
+-- where a statement stands: the calls around it, the version of its words, the values of private words that no word reads or
+-- writes, the private words that keep their value, the cells where none is written, where `break` and `continue` go, how many
+-- private words its function has, whether a marked loop of it is around, whether a loop is, and the context of its meaning
 pub record Scene : Type 0 where
   pub ground : Ground
   pub version : Version
   pub fixed : ℕ → Option ℤ
+  pub kept : ℕ → Option ℤ
+  pub frozen : Option (List ℤ)
   pub to : Targets
   pub privates : ℕ
   pub is_marked : Bool
@@ -39,17 +42,30 @@ fixed_or None v = v
 abbrev pub held : Scene → List ℤ → List ℤ → ℕ → ℤ
 held s ps cells k = fixed_or (s.fixed k) (value_at s.version ps cells k)
 
+-- the private words and the cells are those of a call there
+pub record Holds (s : Scene) (ps cells : List ℤ) : Type 0 where
+  pub long : length ps ≡ PRIVATE_LIMIT
+  pub keeps : (k : ℕ) (z : ℤ) → s.kept k ≡ Some z → slice_index_or ps k (pos 0) ≡ z
+  pub freezes : (cs : List ℤ) → s.frozen ≡ Some cs → cells ≡ cs
+
 module _ (p : Program) (code : CodeView) where
   pub record Fair (s : Scene) : Type 0 where
     pub globals : s.version.globals ≡ words_in (layout_of p)
     pub carries : (k cell : ℕ) → cell_of s.version.carried k ≡ Some cell → is_active s.ground ≡ true
     pub active : s.context.is_active ≡ is_active s.ground
     pub marked : s.is_marked ≡ true → is_active s.ground ≡ true
+    pub loose : is_active s.ground ≡ false → (k : ℕ) → (s.fixed k ≡ None) × (s.kept k ≡ None)
+    pub thawed : is_active s.ground ≡ false → s.frozen ≡ None
+    pub apart : (j k cell : ℕ) → cell_of s.version.carried j ≡ Some cell → cell_of s.version.carried k ≡ Some cell → j ≡ k
+    pub small : (k cell : ℕ) → cell_of s.version.carried k ≡ Some cell → cell < CELL_LIMIT
+    pub still : (cs : List ℤ) → s.frozen ≡ Some cs → (k : ℕ) → cell_of s.version.carried k ≡ None
+    pub few : s.privates ≤ PRIVATE_LIMIT
 
   -- the machine stands at a place, with the locals of an environment
   pub record Stands (s : Scene) (scopes : Scopes) (place : ℕ) (env : Environment) (w : World) (m : Machine) : Type 0 where
     pub ps : List ℤ
     pub cells : List ℤ
+    pub holds : Holds s ps cells
     pub at : At p code s.ground place ps [] cells w m
     pub env_is : env ≡ env_of scopes (held s ps cells)
 
@@ -58,7 +74,8 @@ module _ (p : Program) (code : CodeView) where
     pub memory : Memory
     pub back : Back code s.ground v memory m
     pub world : w ≡ world_at p code s.ground memory
-    pub room : words_in (layout_of p) ≤ length memory.store
+    pub room : words_in (layout_of p) + CELL_LIMIT ≤ length memory.store
+    pub cells_are : (cs : List ℤ) → s.frozen ≡ Some cs → is_active s.ground ≡ true → drop (words_in (layout_of p)) memory.store ≡ cs
 
   abbrev pub EndsBy : Scene → Scopes → ℕ → Exit → Environment → World → Machine → Type 0
   EndsBy s scopes place GoesOn env w m = Stands s scopes place env w m
@@ -72,24 +89,24 @@ module _ (p : Program) (code : CodeView) where
 
   -- the turns of a loop that begin at start, where its body has the targets of the scene
   pub turns_follow : (s : Scene) (scopes : Scopes) (start after behind : ℕ) (counted : Bool) (test : Environment → Run ℤ) (body : Environment → Effect) (step : Environment → Run Environment) (Done : Exit × Environment → World → Machine → Type 0)
-      → ((n : ℕ) → n ≤ s.context.turns → (ps cells : List ℤ) (w : World) (m : Machine) → At p code s.ground start ps [] cells w m → (f g : Run (Exit × Environment))
+      → ((n : ℕ) → n ≤ s.context.turns → (ps cells : List ℤ) → Holds s ps cells → (w : World) (m : Machine) → At p code s.ground start ps [] cells w m → (f g : Run (Exit × Environment))
         → ((w' : World) (m' : Machine) → At p code s.ground s.to.break_to ps [] cells w' m' → Follows code n m' (f w') Done)
         → ((w' : World) (m' : Machine) → At p code s.ground after ps [] cells w' m' → Follows code n m' (g w') Done)
         → Follows code n m ((test (env_of scopes (held s ps cells)) >>= (λ v. if is_zero v then f else g)) w) Done)
-      → ((ps cells : List ℤ) (w : World) (m : Machine) → At p code s.ground after ps [] cells w m → Follows code s.context.turns m (body (env_of scopes (held s ps cells)) w) (Ends s scopes s.to.continue_to))
+      → ((ps cells : List ℤ) → Holds s ps cells → (w : World) (m : Machine) → At p code s.ground after ps [] cells w m → Follows code s.context.turns m (body (env_of scopes (held s ps cells)) w) (Ends s scopes s.to.continue_to))
       → ((env : Environment) (w : World) (m : Machine) → Stands s scopes s.to.continue_to env w m → Follows code s.context.turns m (step env w) (λ env' w' m'. Stands s scopes behind env' w' m'))
       → ((n : ℕ) (env : Environment) (w : World) (m : Machine) (next : Environment → Effect) → Stands s scopes behind env w m
-        → ((ps cells : List ℤ) (w' : World) (m' : Machine) → At p code s.ground start ps [] cells w' m' → env ≡ env_of scopes (held s ps cells) → Follows code n m' (next env w') Done)
+        → ((ps cells : List ℤ) → Holds s ps cells → (w' : World) (m' : Machine) → At p code s.ground start ps [] cells w' m' → env ≡ env_of scopes (held s ps cells) → Follows code n m' (next env w') Done)
         → Follows code (suc n) m ((count_turn counted >>= (λ done. next env)) w) Done)
       → ((n : ℕ) (env : Environment) (w : World) (m : Machine) → Stands s scopes s.to.break_to env w m → Follows code n m (goes_on env w) Done)
       → ((n : ℕ) (v : ℤ) (env : Environment) (w : World) (m : Machine) → Came s v w m → Follows code n m (Gives (Returns v, env) w) Done)
-      → (n : ℕ) → n ≤ s.context.turns → (ps cells : List ℤ) (w : World) (m : Machine) → At p code s.ground start ps [] cells w m
+      → (n : ℕ) → n ≤ s.context.turns → (ps cells : List ℤ) → Holds s ps cells → (w : World) (m : Machine) → At p code s.ground start ps [] cells w m
       → Follows code n m (loop n counted test body step (env_of scopes (held s ps cells)) w) Done
-  turns_follow s scopes start after behind counted test body step Done ht hb hs again leaves returned zero le ps cells w m at =
-      ht zero le ps cells w m at (goes_on (env_of scopes (held s ps cells))) unfinished
-      (λ w' m' at'. leaves zero _ w' m' (record { ps = ps; cells = cells; at = at'; env_is = refl }))
+  turns_follow s scopes start after behind counted test body step Done ht hb hs again leaves returned zero le ps cells holds w m at =
+      ht zero le ps cells holds w m at (goes_on (env_of scopes (held s ps cells))) unfinished
+      (λ w' m' at'. leaves zero _ w' m' (record { ps = ps; cells = cells; holds = holds; at = at'; env_is = refl }))
       (λ w' m' at'. record { steps = 0; enough = omega arith; holds = not_over p code s.ground after ps [] cells w' m' at' })
-  turns_follow s scopes start after behind counted test body step Done ht hb hs again leaves returned (suc n) le ps cells w m at =
+  turns_follow s scopes start after behind counted test body step Done ht hb hs again leaves returned (suc n) le ps cells holds w m at =
       let env = env_of scopes (held s ps cells) in
       let next = loop n counted test body step in
       let more : (env' : Environment) (w' : World) (m' : Machine) → Stands s scopes s.to.continue_to env' w' m'
@@ -97,12 +114,12 @@ module _ (p : Program) (code : CodeView) where
           follows_then code (suc n) m' (step env' w') (λ env''. count_turn counted >>= (λ done. next env'')) (λ env'' w'' m''. Stands s scopes behind env'' w'' m'') Done
           (follows_fewer code s.context.turns (suc n) m' (step env' w') _ le (hs env' w' m' stands))
           (λ env'' w'' m'' stands'. again n env'' w'' m'' next stands'
-          (λ ps' cells' w3 m3 at3 env_is. subst (λ x. Follows code n m3 (next x w3) Done) (sym env_is)
-          (turns_follow s scopes start after behind counted test body step Done ht hb hs again leaves returned n (omega arith) ps' cells' w3 m3 at3))) in
-      ht (suc n) le ps cells w m at (goes_on env) (body env >>= (λ out. end_turn out.0 counted step next out.1))
-      (λ w' m' at'. leaves (suc n) _ w' m' (record { ps = ps; cells = cells; at = at'; env_is = refl }))
+          (λ ps' cells' holds' w3 m3 at3 env_is. subst (λ x. Follows code n m3 (next x w3) Done) (sym env_is)
+          (turns_follow s scopes start after behind counted test body step Done ht hb hs again leaves returned n (omega arith) ps' cells' holds' w3 m3 at3))) in
+      ht (suc n) le ps cells holds w m at (goes_on env) (body env >>= (λ out. end_turn out.0 counted step next out.1))
+      (λ w' m' at'. leaves (suc n) _ w' m' (record { ps = ps; cells = cells; holds = holds; at = at'; env_is = refl }))
       (λ w' m' at'. follows_then code (suc n) m' (body env w') (λ out. end_turn out.0 counted step next out.1) (Ends s scopes s.to.continue_to) Done
-      (follows_fewer code s.context.turns (suc n) m' (body env w') _ le (hb ps cells w' m' at'))
+      (follows_fewer code s.context.turns (suc n) m' (body env w') _ le (hb ps cells holds w' m' at'))
       (λ out w'' m'' ends. ended out.0 out.1 w'' m'' ends more))
     where
       ended : (exit : Exit) (env' : Environment) (w' : World) (m' : Machine) → EndsBy s scopes s.to.continue_to exit env' w' m'

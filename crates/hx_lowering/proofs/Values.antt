@@ -34,7 +34,7 @@ use Rattle.hx_lowering.proofs.Globals.{Layout, store_from, words_in, place_of}
 use Rattle.hx_lowering.proofs.Follow.{Follows, follows_then, follows_last, at_once}
 use Rattle.hx_lowering.proofs.Setting.{Ground, is_active, Memory}
 use Rattle.hx_lowering.proofs.Stand.{Has, has_before, word_stands, has_expr, length-put, length-expr}
-use Rattle.hx_lowering.proofs.At.{layout_of, call_at, world_at, At, at_place, goes_to, loads_to, faults_to}
+use Rattle.hx_lowering.proofs.At.{layout_of, call_at, world_at, At, at_place, roomy, goes_to, loads_to, faults_to}
 use Rattle.hx_lowering.proofs.Names.{env_of, value_of, names_of, Around, int_is, array_is, word_of}
 
 -- what a version's code reads for a private word
@@ -174,7 +174,7 @@ module _ (p : Program) (code : CodeView) (K : Ground) (v : Version) (words : cod
       → ((z : ℤ) (m' : Machine) → At p code K (length (put v h (Elem (array_of ws) x.pos) lines)) ps (z ∷ os) cells w m' → Follows code n m' (f z w) Done) → Follows code n m ((read_element x i >>= f) w) Done
   element_follows n h x i ws ps os cells w m lines f Done lies has at go_on =
       subst (λ o. Follows code n m ((or_fault IndexOutOfRange x.pos o >>= f) w) Done)
-      (sym (ap (λ (u : World). word_at (words_of u.store x.text) i) at.world ∙ word_of (layout_of p) at.memory.store x.text ws i lies at.room))
+      (sym (ap (λ (u : World). word_at (words_of u.store x.text) i) at.world ∙ word_of (layout_of p) at.memory.store x.text ws i lies (roomy p code K _ _ _ _ _ _ at)))
       (go (at_index i ws.length) refl)
     where
       go : (q : Option ℕ) → at_index i ws.length ≡ q
@@ -199,7 +199,7 @@ module _ (p : Program) (code : CodeView) (K : Ground) (v : Version) (words : cod
       let a = word_named x (symbols_of p) in
       let lies = int_is p scopes here x around e ok in
       let is : word_at (words_of w.store x.text) (pos 0) ≡ Some (slice_index_or at.memory.store (a + 0) (pos 0)) =
-      ap (λ (u : World). word_at (words_of u.store x.text) (pos 0)) at.world ∙ word_of (layout_of p) at.memory.store x.text (record { base = a; length = 1 }) (pos 0) lies at.room in
+      ap (λ (u : World). word_at (words_of u.store x.text) (pos 0)) at.world ∙ word_of (layout_of p) at.memory.store x.text (record { base = a; length = 1 }) (pos 0) lies (roomy p code K _ _ _ _ _ _ at) in
       let same : a ≡ a + 0 = omega arith in
       let z : ℤ = slice_index_or at.memory.store (a + 0) (pos 0) in
       subst (λ q. Follows code n m (or_fault IndexOutOfRange x.pos q w) (Leaves (put v h (Glob a) lines) ps os cells))

@@ -1,5 +1,5 @@
--- Which programs are lowered today: those whose functions have no private words, neither parameters nor locals, and call nothing.
-use Rattle.std.specs.Prelude.{Bool, true, false, ◌&&◌, nat_eq, List, [], ◌∷◌, Option, Some, None}
+-- Which programs are lowered today: those whose functions call nothing.
+use Rattle.std.specs.Prelude.{Bool, true, false, ◌&&◌, List, [], ◌∷◌, Option, Some, None}
 use Rattle.hx_tree.specs.declared.tree.BinaryOp.TheVariants.{Strict, And, Or}
 use Rattle.hx_check.specs.Resolved.{Expr, Number, Private, Word, Element, Call, Unary, Binary, Place, ToPrivate, ToWord, ToElement, Assignment, Set, Update, Simple, Declare, Assign, Clauses, LoopKind, Plain, IsRegion, Region, Stmt, Block, Do, CallStatement, Print, Emit, If, IfElse, Loop, Break, Continue, Return, Stmts, no_stmts, stmt_and, Function, Program}
 
@@ -15,7 +15,7 @@ serves_expr (Binary And at l r) = serves_expr l && serves_expr r
 serves_expr (Binary Or at l r) = serves_expr l && serves_expr r
 
 abbrev pub serves_place : Place → Bool
-serves_place (ToPrivate k) = false
+serves_place (ToPrivate k) = true
 serves_place (ToWord a) = true
 serves_place (ToElement words at e) = serves_expr e
 
@@ -24,7 +24,7 @@ serves_assignment (Set p e) = serves_place p && serves_expr e
 serves_assignment (Update p op at e) = serves_place p && serves_expr e
 
 abbrev pub serves_simple : Simple → Bool
-serves_simple (Declare k e) = false
+serves_simple (Declare k e) = serves_expr e
 serves_simple (Assign a) = serves_assignment a
 
 abbrev pub serves_simples : List Simple → Bool
@@ -61,7 +61,7 @@ abbrev mutual
   serves_stmts (stmt_and s ss) = serves_stmt s && serves_stmts ss
 
 abbrev pub serves_function : Function → Bool
-serves_function f = nat_eq f.privates 0 && serves_stmts f.body
+serves_function f = serves_stmts f.body
 
 abbrev pub serves_functions : List Function → Bool
 serves_functions [] = true
