@@ -87,9 +87,33 @@ fn the_shortest_listing(rt: HostRuntime) -> Result<(), Fail> {
     Ok(())
 }
 
+// `int f(){;} int main(){ print(f()); }`
+#[test]
+fn a_call_is_not_served(rt: HostRuntime) -> Result<(), Fail> {
+    let alloc = rt.alloc();
+    let f = Item::Function(Func {
+        returns: Returns::Int,
+        name: name(alloc, b"f", 5)?,
+        params: Params::Nothing,
+        body: vec![in alloc; Part::Stmt(Stmt::Empty)]?,
+    });
+    let call = Expr::Call(name(alloc, b"f", 31)?, Vec::new(alloc));
+    let at = Pos { line: 1, col: 25 };
+    let main = main_of(alloc, 17, Part::Stmt(Stmt::Print(at, call)))?;
+    let program = Program {
+        items: vec![in alloc; f, main]?,
+    };
+    let checked = check(alloc, program)?;
+    match lower(alloc, &checked) {
+        Ok(_code) => assert!(rt; false),
+        Err(error) => assert_eq!(rt; error, LowerError::NotServed),
+    }
+    Ok(())
+}
+
 // `int main(){ int s; }`
 #[test]
-fn a_local_is_not_served(rt: HostRuntime) -> Result<(), Fail> {
+fn a_local(rt: HostRuntime) -> Result<(), Fail> {
     let alloc = rt.alloc();
     let local = LocalDecl {
         name: name(alloc, b"s", 17)?,
@@ -100,9 +124,9 @@ fn a_local_is_not_served(rt: HostRuntime) -> Result<(), Fail> {
         items: vec![in alloc; main]?,
     };
     let checked = check(alloc, program)?;
-    match lower(alloc, &checked) {
-        Ok(_code) => assert!(rt; false),
-        Err(error) => assert_eq!(rt; error, LowerError::NotServed),
-    }
+    let code = lower(alloc, &checked)?;
+    let text = listing(alloc, &code)?;
+    let wanted = b"globals 0\nfunc main 0 0 1\n0 const 0\n1 setpriv 0\n2 const 0\n3 ret\n";
+    assert_eq!(rt; text.as_slice(), wanted.as_slice());
     Ok(())
 }
