@@ -47,10 +47,10 @@ const COUNT: &[u8] = b"int c; int main(){ pwhile(c<3){ print(c); c=c+1; } }";
 const TWO_TURNS: &[u8] = b"int c; int main(){ pwhile(c<2){ c=c+1; } }";
 
 const PAST_THE_END: &[u8] =
-    b"int c; int a[4]; int main(){ pwhile(c<8){ a[c]=c+1; print(c); c=c+1; } }";
+    b"int a[4]; int main(){ pfor(int i=0;i<8;i++){ a[i]=i+1; print(i);} }";
 
 const SUM: &[u8] =
-    b"int in[3]; int n_in; int s; int i; int main(){ pwhile(i<n_in){ s=s+in[i]; i=i+1; } print(s); return s; }";
+    b"int in[3]; int n_in; int main(){ int s=0; pfor(int i=0;i<n_in;i++) s+=in[i]; print(s); return s; }";
 
 #[test]
 fn runs_programs(rt: HostRuntime) -> Result<(), Fail> {
@@ -60,7 +60,7 @@ fn runs_programs(rt: HostRuntime) -> Result<(), Fail> {
     let found = on_source(&rt, p, COUNT, &["hydra", "plain", p])?;
     expect(&rt, &found, b"0\n1\n2\n", b"", 0);
     let found = on_source(&rt, p, PAST_THE_END, &["hydra", "run", p])?;
-    expect(&rt, &found, b"0\n1\n2\n3\n", b"hydra: fault 2 at 1:43\n", 1);
+    expect(&rt, &found, b"0\n1\n2\n3\n", b"hydra: fault 2 at 1:46\n", 1);
     Ok(())
 }
 
@@ -78,7 +78,7 @@ fn refuses_sources(rt: HostRuntime) -> Result<(), Fail> {
     let found = on_source(
         &rt,
         p,
-        b"int main(){ int x=1; print(x); }",
+        b"int f(){ return 1; } int main(){ print(f()); }",
         &["hydra", "run", p],
     )?;
     expect(&rt, &found, b"", b"hydra: refused 66\n", 2);
