@@ -34,34 +34,41 @@ use Rattle.hx_lowering.proofs.Locals.{Tidy}
 use Rattle.hx_lowering.proofs.Drafts.{HasDraft, has_word, has_lines, has_step, has_test, has_stmt, length-test, length-step, length-stmt}
 
 module _ (p : Program) (code : CodeView) (words : code.globals ≡ words_in (layout_of p)) where
-  module _ (s : Scene) (fair : Fair p code s) (next : ℕ) (scopes : Scopes) (tidy : Tidy next scopes) (fits : next ≤ s.privates) (here : Surroundings) (around : Around p scopes here) (call : Calling) where
+  module _ (s : Scene) (fair : Fair p code s) (next : ℕ) (scopes : Scopes) (tidy : Tidy next scopes) (fits : next ≤ s.privates) (here : Surroundings) (around : Around p scopes here) where
+    abbrev call : Calling
+    call = call_in s.context
+
+    abbrev n : ℕ
+    n = s.context.turns
+
     -- a test and its jump
     pub test_here : {A : Type 0} (o : Option tree.Expr) → IfThere AcceptsExpr o here → IsTrue (serves_test (option_map (λ e. resolve_expr e (symbols_of p) scopes) o))
         → Free s (λ k. if_any (expr_reads k) (option_map (λ e. resolve_expr e (symbols_of p) scopes) o))
-        → (n exit : ℕ) (ps cells : List ℤ) (lines : List Line) → Has code (test_lines (option_map (λ e. resolve_expr e (symbols_of p) scopes) o) exit s.version lines)
+        → (n exit : ℕ) → n ≤ s.context.turns → (ps cells : List ℤ) (lines : List Line) → Has code (test_lines (option_map (λ e. resolve_expr e (symbols_of p) scopes) o) exit s.version lines)
         → (w : World) (m : Machine) → At p code s.ground (length lines) ps [] cells w m → (f g : Run A) (Done : A → World → Machine → Type 0)
         → ((w' : World) (m' : Machine) → At p code s.ground exit ps [] cells w' m' → Follows code n m' (f w') Done)
         → ((w' : World) (m' : Machine) → At p code s.ground (length (test_lines (option_map (λ e. resolve_expr e (symbols_of p) scopes) o) exit s.version lines)) ps [] cells w' m' → Follows code n m' (g w') Done)
         → Follows code n m ((value_or (pos 1) o call (env_of scopes (held s ps cells)) >>= (λ v. if is_zero v then f else g)) w) Done
-    test_here None ok served free n exit ps cells lines has w m at f g Done kf kg = kg w m at
-    test_here (Some e) ok served free n exit ps cells lines has w m at f g Done kf kg =
+    test_here None ok served free n exit le ps cells lines has w m at f g Done kf kg = kg w m at
+    test_here (Some e) ok served free n exit le ps cells lines has w m at f g Done kf kg =
         let es = expr_lines (resolve_expr e (symbols_of p) scopes) s.version 0 lines in
         follows_then code n m (value e call (env_of scopes (held s ps cells)) w) (λ v. if is_zero v then f else g) (Leaves p code s.ground s.version words fair.globals fair.carries es ps [] cells) Done
-        (value_here p code words s fair next scopes tidy fits here around call e ok served free n 0 ps [] cells lines (has_before code s.version 1 (JumpFalse exit) es has) w m at)
+        (follows_fewer code s.context.turns n m (value e call (env_of scopes (held s ps cells)) w) _ le
+        (value_here p code words s fair next scopes tidy fits here around e ok served free 0 ps [] cells lines (has_before code s.version 1 (JumpFalse exit) es has) w m at))
         (λ x w' m' at'. jump_follows p code s.ground s.version words fair.globals fair.carries n 1 exit x ps [] cells w' m' es f g Done has at' (kf w') (kg w'))
 
     -- a step
     pub step_here : (o : Option tree.Assignment) → IfThere AcceptsAssignment o here → IsTrue (serves_step (option_map (λ a. resolve_assignment a (symbols_of p) scopes) o))
         → Free s (λ k. if_any (assignment_reads k) (option_map (λ a. resolve_assignment a (symbols_of p) scopes) o))
         → Loose s (λ k. if_any (assigns k) (option_map (λ a. resolve_assignment a (symbols_of p) scopes) o))
-        → (n : ℕ) (lines : List Line) → Has code (step_lines (option_map (λ a. resolve_assignment a (symbols_of p) scopes) o) s.version lines)
+        → (lines : List Line) → Has code (step_lines (option_map (λ a. resolve_assignment a (symbols_of p) scopes) o) s.version lines)
         → (env : Environment) (w : World) (m : Machine) → Stands p code s scopes (length lines) env w m
         → Follows code n m (step_of o call env w) (λ env' w' m'. Stands p code s scopes (length (step_lines (option_map (λ a. resolve_assignment a (symbols_of p) scopes) o) s.version lines)) env' w' m')
-    step_here None ok served free loose n lines has env w m stands = at_once code m (λ m'. Stands p code s scopes (length lines) env w m') stands
-    step_here (Some a) ok served free loose n lines has env w m stands =
+    step_here None ok served free loose lines has env w m stands = at_once code m (λ m'. Stands p code s scopes (length lines) env w m') stands
+    step_here (Some a) ok served free loose lines has env w m stands =
         subst (λ x. Follows code n m (step_of (Some a) call x w) (λ env' w' m'. Stands p code s scopes (length (step_lines (Some (resolve_assignment a (symbols_of p) scopes)) s.version lines)) env' w' m'))
         (sym stands.env_is)
-        (assign_follows p code words s fair next scopes tidy fits here around call a ok served free loose n stands.ps stands.cells stands.holds lines has w m stands.at)
+        (assign_follows p code words s fair next scopes tidy fits here around a ok served free loose stands.ps stands.cells stands.holds lines has w m stands.at)
 
   -- ---- a plain loop
 
@@ -118,9 +125,9 @@ module _ (p : Program) (code : CodeView) (words : code.globals ≡ words_in (lay
       let env0 = env_of scopes (held s ps cells) in
       subst (λ b. Follows code c.turns m (loop c.turns b (value_or (pos 1) test (call_in c)) body (step_of step (call_in c)) env0 w) Done) (sym none)
       (turns_follow p code si scopes start (length d1.lines) (length d3.lines) false (value_or (pos 1) test (call_in c)) body (step_of step (call_in c)) Done
-      (λ n le ps' cells' holds' w' m' at' f g kf kg. test_here si fair next scopes tidy fits here around (call_in c) test ok_test served_test free_test n exit ps' cells' d.lines has1.lines w' m' at' f g Done kf kg)
+      (λ n le ps' cells' holds' w' m' at' f g kf kg. test_here si fair next scopes tidy fits here around test ok_test served_test free_test n exit le ps' cells' d.lines has1.lines w' m' at' f g Done kf kg)
       (λ ps' cells' holds' w' m' at'. subst (λ q. Follows code c.turns m' (body (env_of scopes (held s ps' cells')) w') (Ends p code si scopes q)) at_step (hb ps' cells' (outer_holds ps' cells' holds') w' m' at' has2))
-      (λ env' w' m' stands. step_here si fair next scopes tidy fits here around (call_in c) step ok_step served_step free_step loose_step c.turns d2.lines has3.lines env' w' m'
+      (λ env' w' m' stands. step_here si fair next scopes tidy fits here around step ok_step served_step free_step loose_step d2.lines has3.lines env' w' m'
         (subst (λ q. Stands p code si scopes q env' w' m') (sym at_step) stands))
       (λ n env' w' m' next stands k. turns_back p code s.ground n (length d3.lines) start stands.ps stands.ps [] [] stands.cells w' m' (Jump start) (next env' w') Done stands.at (word_stands code v 0 (Jump start) d3.lines has.lines) refl
         (λ m'' at''. k stands.ps stands.cells stands.holds w' m'' at'' stands.env_is))

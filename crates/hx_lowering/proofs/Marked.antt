@@ -95,7 +95,7 @@ module _ (p : Program) (code : CodeView) (words : code.globals ≡ words_in (lay
         → (ps cells : List ℤ) → Holds s ps cells → (w : World) (m : Machine) → At p code s.ground (length d.lines) ps [] cells w m
         → Follows code s.context.turns m (meant marked (env_of scopes (held s ps cells)) w) (Ends p code (marked_scene s im) scopes (length (plain_draft (Cs scopes init test step) (stmt_size rb) (draw s.version) s.version d).lines))
     plain_loop marked im fair none active mark hb d has ps cells holds w m at =
-        let fair_in : Fair p code (within p code words s (plain_targets (Cs scopes init test step) rb d) (im || marked) (inside_context marked s.context)) = record { globals = fair.globals; carries = fair.carries; active = active; marked = mark; loose = fair.loose; thawed = fair.thawed; apart = fair.apart; small = fair.small; still = fair.still; few = fair.few } in
+        let fair_in : Fair p code (within p code words s (plain_targets (Cs scopes init test step) rb d) (im || marked) (inside_context marked s.context)) = record { globals = fair.globals; carries = fair.carries; active = active; marked = mark; loose = fair.loose; thawed = fair.thawed; apart = fair.apart; small = fair.small; still = fair.still; few = fair.few; calls = fair.calls } in
         plain_follows p code words (marked_scene s im) (im || marked) (inside_context marked s.context) next scopes tidy fits here around init test step rb (body (inside_context marked s.context)) (is_counted marked s.context) none
         ok_test ok_step served_test served_step free_test free_step loose_step d has fair_in (λ ps' cells' holds' w' m' at' has'. hb d fair_in ps' cells' (unmarked im ps' cells' holds') w' m' at' has') ps cells (remarked im ps cells holds) w m at
 
@@ -153,7 +153,7 @@ module _ (p : Program) (code : CodeView) (words : code.globals ≡ words_in (lay
       let cs = Cs scopes init test step in
       subst (λ b. Follows code s.context.turns m (loop s.context.turns b (value_or (pos 1) test (call_in c)) (body c) (step_of step (call_in c)) (env_of scopes (held s ps cells)) w)
         (Ends p code (marked_scene (record s { ground = Outside rest }) false) scopes (length (whole p code words (region_of s.privates cs rb) cs rb s.version d).lines))) (sym counted)
-      (region_opens p code words (marked_scene s false) mk rest c next scopes tidy fits here around init test step rb (body c) ok_test ok_step served_test served_step flat declares d has fair (or_true s.context.is_active)
+      (region_opens p code words (marked_scene s false) mk rest c next scopes tidy fits here around init test step rb (body c) ok_test ok_step served_test served_step flat declares d has fair (or_true s.context.is_active) fair.calls
         (λ o number fair' ps' cells' holds' w' m' at' has'. hr d o number fair' ps' cells' holds' w' m' at' has') ps cells (record { long = holds.long; keeps = holds.keeps; freezes = holds.freezes }) w m at)
 
   -- THE loops

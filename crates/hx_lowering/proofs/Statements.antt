@@ -13,23 +13,23 @@ use Rattle.hx_tree.specs.Numbers.{is_zero}
 use Rattle.hx_tree.specs.Tree as tree
 use Rattle.hx_tree.specs.Tree.{Program, Name}
 use Rattle.hx_tree.specs.World.{Map, declare, World, Answer, Gives, Faults, Unfinished, Run, and_then, ◌>>=◌, gives, Environment, enter_scope, leave_scope, print_bytes}
-use Rattle.hx_tree.specs.Value.{Calling, value}
+use Rattle.hx_tree.specs.Value.{Calling, value, values}
 use Rattle.hx_tree.specs.Effect.{Exit, GoesOn, Breaks, Continues, Returns, Effect, Context, goes_on, go_on, inside as inside_context, is_counted, loop, step_of, call_in, value_or, declare_all, begin, effect, effects, part_effect, assign}
-use Rattle.hx_tree.specs.Accepted.{Surroundings, AcceptsStmt, AcceptsParts, AcceptsExpr, AcceptsReturn, AcceptsInit, AcceptsLocals, after_init, with_name, with_local, with_locals, IfThere, in_scope, inside_loop, stmt_locals, part_locals, parts_locals, init_locals}
+use Rattle.hx_tree.specs.Accepted.{Surroundings, AcceptsStmt, AcceptsParts, AcceptsExpr, AcceptsReturn, AcceptsInit, AcceptsLocals, after_init, with_name, with_local, with_locals, IfThere, in_scope, inside_loop, stmt_locals, part_locals, parts_locals, init_locals, FunctionKind, count as tree_count}
 use Rattle.hx_check.specs.declared.symbol.Symbol.{Symbol}
 use Rattle.hx_check.specs.Resolved as resolved
 use Rattle.hx_check.specs.Symbols.{Scopes, symbols_of, with_word, with_words, words_after_init}
 use Rattle.hx_check.specs.Carried.{expr_reads, stmt_reads, stmts_read, clauses_read, any_of, if_any, assignment_reads, simple_reads, assigns, simple_assigns, simple_declares, stmt_assigns, stmts_assign, stmt_declares, stmts_declare, turns_read, turns_assign}
 use Rattle.hx_check.specs.Resolve as resolve
-use Rattle.hx_check.specs.Resolve.{resolve_expr, resolve_assignment, resolve_stmt, resolve_parts, expr_or_zero}
-use Rattle.hx_code.specs.declared.word.Word.TheVariants.{Jump, JumpFalse, Print, Emit, Ret, Const}
+use Rattle.hx_check.specs.Resolve.{resolve_expr, resolve_exprs, function_at, resolve_assignment, resolve_stmt, resolve_parts, expr_or_zero}
+use Rattle.hx_code.specs.declared.word.Word.TheVariants.{Jump, JumpFalse, Print, Emit, Ret, Const, Call, Drop}
 use Rattle.hx_code.specs.declared.word.Output.TheVariants as output
 use Rattle.hx_code.specs.declared.word.Ask.TheVariants as ask
 use Rattle.hx_code.specs.Code.{CodeView}
 use Rattle.hx_code.specs.Call.{CallView, Asks, wants_of, low_byte}
 use Rattle.hx_code.specs.Machine.{Machine, machine_step}
 use Rattle.hx_lowering.specs.declared.line.Line.{Line}
-use Rattle.hx_lowering.specs.Lines.{Version, put, set_private, expr_lines, assignment_lines, simples_lines}
+use Rattle.hx_lowering.specs.Lines.{Version, put, set_private, count, expr_lines, exprs_lines, assignment_lines, simples_lines}
 use Rattle.hx_lowering.specs.Size.{expr_size, stmt_size}
 use Rattle.hx_lowering.specs.Draft.{Draft, Targets, with_lines, put_word, inside, loop_draft, stmt_draft, stmts_draft}
 use Rattle.hx_lowering.specs.Serves.{serves_expr, serves_stmt, serves_stmts, serves_clauses, serves_simples, serves_test, serves_step, serves_assignment}
@@ -45,7 +45,8 @@ use Rattle.hx_lowering.proofs.Locals.{Tidy, tidy_more, tidy_scope, tidy_word, de
 use Rattle.hx_lowering.proofs.Taken.{unfixed_read, unfixed_write, unkept_write, own_unfixed, own_unkept}
 use Rattle.hx_lowering.proofs.Declares.{reads_then, assigns_then, declares_then, serves_then, draft_then, declares_from}
 use Rattle.hx_lowering.proofs.Writes.{private_written}
-use Rattle.hx_lowering.proofs.Assigns.{Free, Loose, Behind, value_here, assign_follows}
+use Rattle.hx_lowering.proofs.Assigns.{Free, Loose, Behind, value_here, values_here, call_here, assign_follows}
+use Rattle.hx_lowering.proofs.Calling.{onto}
 use Rattle.hx_lowering.proofs.Drafts.{HasDraft, has_word, has_lines, has_stmt, has_stmts, has_simples, has_loop, length-stmt}
 use Rattle.hx_lowering.proofs.Loops.{clauses_of}
 use Rattle.hx_lowering.proofs.Marked.{loop_follows}
@@ -114,7 +115,7 @@ module _ (p : Program) (code : CodeView) (words : code.globals ≡ words_in (lay
       let env = env_of scopes (held s ps cells) in
       let n = s.context.turns in
       follows_then code n m (value e (call_in s.context) env w) (λ v. print_bytes place (signed_decimal v ++ 10 ∷ []) >>= (λ done. goes_on env)) (Leaves p code s.ground s.version words fair.globals fair.carries es ps [] cells) (Ends p code s scopes (length done))
-      (value_here p code words s fair next scopes tidy fits here around (call_in s.context) e ok served free n 0 ps [] cells lines (has_before code s.version 1 (Print place) es has) w m at)
+      (value_here p code words s fair next scopes tidy fits here around e ok served free 0 ps [] cells lines (has_before code s.version 1 (Print place) es has) w m at)
       (λ v w' m' at'. prints_to p code s.ground n (length es) (length es + 1) ps (v ∷ []) [] cells w' m' (Print place) (output.Number v) place (λ done. goes_on env) (Ends p code s scopes (length done)) words at' (word_stands code s.version 1 (Print place) es has) refl
       (λ w'' m'' at''. goes_on_here s scopes n (length done) ps cells holds w'' m'' (at_place p code s.ground (length es + 1) (length done) ps [] cells w'' m'' (sym (length-put s.version 1 (Print place) es)) at'')))
 
@@ -129,7 +130,7 @@ module _ (p : Program) (code : CodeView) (words : code.globals ≡ words_in (lay
       let env = env_of scopes (held s ps cells) in
       let n = s.context.turns in
       follows_then code n m (value e (call_in s.context) env w) (λ v. print_bytes place (cast_unsigned w32 v % 256 ∷ []) >>= (λ done. goes_on env)) (Leaves p code s.ground s.version words fair.globals fair.carries es ps [] cells) (Ends p code s scopes (length done))
-      (value_here p code words s fair next scopes tidy fits here around (call_in s.context) e ok served free n 0 ps [] cells lines (has_before code s.version 1 (Emit place) es has) w m at)
+      (value_here p code words s fair next scopes tidy fits here around e ok served free 0 ps [] cells lines (has_before code s.version 1 (Emit place) es has) w m at)
       (λ v w' m' at'. prints_to p code s.ground n (length es) (length es + 1) ps (v ∷ []) [] cells w' m' (Emit place) (output.Byte (low_byte v)) place (λ done. goes_on env) (Ends p code s scopes (length done)) words at' (word_stands code s.version 1 (Emit place) es has) refl
       (λ w'' m'' at''. goes_on_here s scopes n (length done) ps cells holds w'' m'' (at_place p code s.ground (length es + 1) (length done) ps [] cells w'' m'' (sym (length-put s.version 1 (Emit place) es)) at'')))
 
@@ -157,7 +158,7 @@ module _ (p : Program) (code : CodeView) (words : code.globals ≡ words_in (lay
       let es = expr_lines (resolve_expr e (symbols_of p) scopes) s.version 0 lines in
       let env = env_of scopes (held s ps cells) in
       follows_then code s.context.turns m (value e (call_in s.context) env w) (λ v. gives (Returns v, env)) (Leaves p code s.ground s.version words fair.globals fair.carries es ps [] cells) (Ends p code s scopes place)
-      (value_here p code words s fair next scopes tidy fits here around (call_in s.context) e (returned_ok here.returns e here ok) served free s.context.turns 0 ps [] cells lines (has_before code s.version 1 Ret es has) w m at)
+      (value_here p code words s fair next scopes tidy fits here around e (returned_ok here.returns e here ok) served free 0 ps [] cells lines (has_before code s.version 1 Ret es has) w m at)
       (λ v w' m' at'. returns_it s scopes s.context.turns env v 1 es has ps cells holds w' m' place at')
 
   -- a jump out of a turn
@@ -224,9 +225,9 @@ module _ (p : Program) (code : CodeView) (words : code.globals ≡ words_in (lay
       → Follows code s.context.turns m (value_or (pos 0) o (call_in s.context) (env_of scopes (held s ps cells)) w)
         (Leaves p code s.ground s.version words fair.globals fair.carries (expr_lines (expr_or_zero o (symbols_of p) scopes) s.version 0 lines) ps [] cells)
   first_value s fair next scopes tidy fits here around None ok served free lines has ps cells w m at =
-      value_here p code words s fair next scopes tidy fits here around (call_in s.context) (tree.Number 0) (omega arith) served free s.context.turns 0 ps [] cells lines has w m at
+      value_here p code words s fair next scopes tidy fits here around (tree.Number 0) (omega arith) served free 0 ps [] cells lines has w m at
   first_value s fair next scopes tidy fits here around (Some e) ok served free lines has ps cells w m at =
-      value_here p code words s fair next scopes tidy fits here around (call_in s.context) e ok served free s.context.turns 0 ps [] cells lines has w m at
+      value_here p code words s fair next scopes tidy fits here around e ok served free 0 ps [] cells lines has w m at
 
   locals_follow : (ds : List tree.LocalDecl) (s : Scene) (fair : Fair p code s) → (scopes outer : Scopes) → Top scopes outer → (k : ℕ) → Tidy k scopes → k + length ds ≤ s.privates → (here : Surroundings) → Around p scopes here → AcceptsLocals ds here
       → IsTrue (serves_simples (resolve.resolve_locals ds (symbols_of p) scopes k))
@@ -284,8 +285,8 @@ module _ (p : Program) (code : CodeView) (words : code.globals ≡ words_in (lay
   begin_follows (tree.InitAssign a) s fair scopes here around k tidy fits ok served free loose fresh lines has ps cells holds w m at =
       let ra = resolve_assignment a (symbols_of p) ([] ∷ scopes) in
       (scope_in scopes here around, ([], refl), tidy_more k (k + 0) ([] ∷ scopes) (omega arith) (tidy_scope k scopes tidy),
-      assign_follows p code words s fair k ([] ∷ scopes) (tidy_scope k scopes tidy) (omega arith) (in_scope here) (scope_in scopes here around) (call_in s.context) a ok (and_left (serves_assignment ra) true served)
-      (free_left s (λ j. assignment_reads j ra) (λ j. false) free) (loose_left s (λ j. assigns j ra) (λ j. false) loose) s.context.turns ps cells holds lines has w m at)
+      assign_follows p code words s fair k ([] ∷ scopes) (tidy_scope k scopes tidy) (omega arith) (in_scope here) (scope_in scopes here around) a ok (and_left (serves_assignment ra) true served)
+      (free_left s (λ j. assignment_reads j ra) (λ j. false) free) (loose_left s (λ j. assigns j ra) (λ j. false) loose) ps cells holds lines has w m at)
 
   -- past the other side of an `if`
   past_else : (s : Scene) (scopes : Scopes) (n place to behind : ℕ) → to ≡ behind → slice_get code.words place ≡ Some (Jump to) → (m : Machine) (a : Answer (Exit × Environment))
@@ -339,9 +340,26 @@ module _ (p : Program) (code : CodeView) (words : code.globals ≡ words_in (lay
     stmt_follows (tree.Assign a) s fair scopes here around loops k tidy fits ok served free loose fresh d has ps cells holds w m at =
         let done = assignment_lines (resolve_assignment a (symbols_of p) scopes) s.version d.lines in
         follows_then code s.context.turns m (assign a (call_in s.context) (env_of scopes (held s ps cells)) w) (λ env'. goes_on env') (λ env' w' m'. Stands p code s scopes (length done) env' w' m') (Ends p code s scopes (length done))
-        (assign_follows p code words s fair k scopes tidy (omega arith) here around (call_in s.context) a ok served free loose s.context.turns ps cells holds d.lines has.lines w m at)
+        (assign_follows p code words s fair k scopes tidy (omega arith) here around a ok served free loose ps cells holds d.lines has.lines w m at)
         (λ env' w' m' stands. at_once code m' (λ x. Stands p code s scopes (length done) env' w' x) stands)
-    stmt_follows (tree.CallStatement f es) s fair scopes here around loops k tidy fits ok served free loose fresh d has ps cells holds w m at = absurd cc
+    stmt_follows (tree.CallStatement f es) s fair scopes here around loops k tidy fits ok served free loose fresh d has ps cells holds w m at =
+        let v = s.version in
+        let n = s.context.turns in
+        let rs = resolve_exprs es (symbols_of p) scopes in
+        let env = env_of scopes (held s ps cells) in
+        let a = exprs_lines rs v 0 d.lines in
+        let word = Call (function_at f (symbols_of p)) f.pos in
+        let b = put v (count rs) word a in
+        let done = put v 1 Drop b in
+        let has_b = has_before code v 1 Drop b has.lines in
+        let Done = Ends p code s scopes (length done) in
+        follows_then code n m (values es (call_in s.context) env w) (λ vs. call_in s.context f vs >>= (λ x. goes_on env))
+        (λ vs w' m'. (length vs ≡ tree_count es) × At p code s.ground (length a) ps (onto vs []) cells w' m') Done
+        (values_here p code words s fair k scopes tidy (omega arith) here around es ok.1 served free 0 ps [] cells d.lines (has_before code v (count rs) word a has_b) w m at)
+        (λ vs w' m' up. follows_then code n m' (call_in s.context f vs w') (λ x. goes_on env) (λ x w'' m''. At p code s.ground (length b) ps (x ∷ []) cells w'' m'') Done
+        (call_here p code words s fair k scopes tidy (omega arith) here around f ok.0.0 vs (ok.0.1 ∙ ap (λ q. Some (FunctionKind ok.0.0 q)) (sym up.0)) (count rs) ps [] cells a has_b w' m' up.1)
+        (λ x w'' m'' at''. word_goes p code s.ground v words fair.globals fair.carries n 1 ps ps (x ∷ []) [] cells w'' m'' Drop b (goes_on env w'') Done has.lines at'' refl
+        (λ m3 at3. goes_on_here s scopes n (length done) ps cells holds w'' m3 at3)))
     stmt_follows (tree.Print place e) s fair scopes here around loops k tidy fits ok served free loose fresh d has ps cells holds w m at = prints s fair k scopes tidy (omega arith) here around e ok served free place d.lines has.lines ps cells holds w m at
     stmt_follows (tree.Emit place e) s fair scopes here around loops k tidy fits ok served free loose fresh d has ps cells holds w m at = emits s fair k scopes tidy (omega arith) here around e ok served free place d.lines has.lines ps cells holds w m at
     stmt_follows (tree.If test st) s fair scopes here around loops k tidy fits ok served free loose fresh d has ps cells holds w m at =
@@ -358,7 +376,7 @@ module _ (p : Program) (code : CodeView) (words : code.globals ≡ words_in (lay
         let at_end : behind ≡ length done.lines = omega (arith, length-stmt rs v s.to d1, length-put v 1 (JumpFalse behind) a, length-expr rt v 0 d.lines) in
         let Done = Ends p code s scopes (length done.lines) in
         follows_then code n m (value test (call_in s.context) env w) (λ x. if is_zero x then goes_on env else effect st s.context env) (Leaves p code s.ground v words fair.globals fair.carries a ps [] cells) Done
-        (value_here p code words s fair k scopes tidy (omega arith) here around (call_in s.context) test ok.0 (and_left (serves_expr rt) (serves_stmt rs) served) (free_left s (λ j. expr_reads j rt) (λ j. stmt_reads j rs) free) n 0 ps [] cells d.lines (has_before code v 1 (JumpFalse behind) a has1.lines) w m at)
+        (value_here p code words s fair k scopes tidy (omega arith) here around test ok.0 (and_left (serves_expr rt) (serves_stmt rs) served) (free_left s (λ j. expr_reads j rt) (λ j. stmt_reads j rs) free) 0 ps [] cells d.lines (has_before code v 1 (JumpFalse behind) a has1.lines) w m at)
         (λ x w' m' at'. jump_follows p code s.ground v words fair.globals fair.carries n 1 behind x ps [] cells w' m' a (goes_on env) (effect st s.context env) Done has1.lines at'
         (λ m'' at''. goes_on_here s scopes n (length done.lines) ps cells holds w' m'' (at_place p code s.ground behind (length done.lines) ps [] cells w' m'' at_end at''))
         (λ m'' at''. stmt_follows st s fair scopes here around loops k tidy fits ok.1 (and_right (serves_expr rt) (serves_stmt rs) served) (free_right s (λ j. expr_reads j rt) (λ j. stmt_reads j rs) free) loose fresh d1 has ps cells holds w' m'' at''))
@@ -386,7 +404,7 @@ module _ (p : Program) (code : CodeView) (words : code.globals ≡ words_in (lay
         let served_rest = and_right (serves_expr rt) (serves_stmt rs && serves_stmt ro) served in
         let free_first = free_left s (λ j. expr_reads j rt || stmt_reads j rs) reads_rest free in
         follows_then code n m (value test (call_in s.context) env w) (λ x. if is_zero x then effect other s.context env else effect st s.context env) (Leaves p code s.ground v words fair.globals fair.carries a ps [] cells) Done
-        (value_here p code words s fair k scopes tidy (omega arith) here around (call_in s.context) test ok.0 (and_left (serves_expr rt) (serves_stmt rs && serves_stmt ro) served) (free_left s (λ j. expr_reads j rt) (λ j. stmt_reads j rs) free_first) n 0 ps [] cells d.lines (has_before code v 1 (JumpFalse other_at) a has1.lines) w m at)
+        (value_here p code words s fair k scopes tidy (omega arith) here around test ok.0 (and_left (serves_expr rt) (serves_stmt rs && serves_stmt ro) served) (free_left s (λ j. expr_reads j rt) (λ j. stmt_reads j rs) free_first) 0 ps [] cells d.lines (has_before code v 1 (JumpFalse other_at) a has1.lines) w m at)
         (λ x w' m' at'. jump_follows p code s.ground v words fair.globals fair.carries n 1 other_at x ps [] cells w' m' a (effect other s.context env) (effect st s.context env) Done has1.lines at'
         (λ m'' at''. stmt_follows other s fair scopes here around loops (k + stmt_locals st) (tidy_more k (k + stmt_locals st) scopes (omega arith) tidy) (omega arith) ok.2 (and_right (serves_stmt rs) (serves_stmt ro) served_rest) (free_right s (λ j. expr_reads j rt || stmt_reads j rs) reads_rest free)
           (loose_right s (λ j. stmt_assigns j rs) (λ j. stmt_assigns j ro) loose) (loose_right s (λ j. stmt_declares j rs) (λ j. stmt_declares j ro) fresh) d3 has ps cells holds w' m''

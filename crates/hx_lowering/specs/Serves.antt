@@ -1,18 +1,23 @@
 -- Which programs are lowered today: those whose functions call nothing.
 use Rattle.std.specs.Prelude.{Bool, true, false, ◌&&◌, List, [], ◌∷◌, Option, Some, None}
 use Rattle.hx_tree.specs.declared.tree.BinaryOp.TheVariants.{Strict, And, Or}
-use Rattle.hx_check.specs.Resolved.{Expr, Number, Private, Word, Element, Call, Unary, Binary, Place, ToPrivate, ToWord, ToElement, Assignment, Set, Update, Simple, Declare, Assign, Clauses, LoopKind, Plain, IsRegion, Region, Stmt, Block, Do, CallStatement, Print, Emit, If, IfElse, Loop, Break, Continue, Return, Stmts, no_stmts, stmt_and, Function, Program}
+use Rattle.hx_check.specs.Resolved.{Expr, Number, Private, Word, Element, Call, Unary, Binary, Exprs, no_exprs, expr_and, Place, ToPrivate, ToWord, ToElement, Assignment, Set, Update, Simple, Declare, Assign, Clauses, LoopKind, Plain, IsRegion, Region, Stmt, Block, Do, CallStatement, Print, Emit, If, IfElse, Loop, Break, Continue, Return, Stmts, no_stmts, stmt_and, Function, Program}
 
-abbrev pub serves_expr : Expr → Bool
-serves_expr (Number n) = true
-serves_expr (Private k) = true
-serves_expr (Word a) = true
-serves_expr (Element words at e) = serves_expr e
-serves_expr (Call f at es) = false
-serves_expr (Unary op e) = serves_expr e
-serves_expr (Binary (Strict op) at l r) = serves_expr l && serves_expr r
-serves_expr (Binary And at l r) = serves_expr l && serves_expr r
-serves_expr (Binary Or at l r) = serves_expr l && serves_expr r
+abbrev mutual
+  pub serves_expr : Expr → Bool
+  serves_expr (Number n) = true
+  serves_expr (Private k) = true
+  serves_expr (Word a) = true
+  serves_expr (Element words at e) = serves_expr e
+  serves_expr (Call f at es) = serves_exprs es
+  serves_expr (Unary op e) = serves_expr e
+  serves_expr (Binary (Strict op) at l r) = serves_expr l && serves_expr r
+  serves_expr (Binary And at l r) = serves_expr l && serves_expr r
+  serves_expr (Binary Or at l r) = serves_expr l && serves_expr r
+
+  pub serves_exprs : Exprs → Bool
+  serves_exprs no_exprs = true
+  serves_exprs (expr_and e es) = serves_expr e && serves_exprs es
 
 abbrev pub serves_place : Place → Bool
 serves_place (ToPrivate k) = true
@@ -46,7 +51,7 @@ abbrev mutual
   pub serves_stmt : Stmt → Bool
   serves_stmt (Block ss) = serves_stmts ss
   serves_stmt (Do s) = serves_simple s
-  serves_stmt (CallStatement f at es) = false
+  serves_stmt (CallStatement f at es) = serves_exprs es
   serves_stmt (Print at e) = serves_expr e
   serves_stmt (Emit at e) = serves_expr e
   serves_stmt (If test s) = serves_expr test && serves_stmt s
