@@ -33,7 +33,6 @@ use Rattle.hx_lowering.specs.Correct.{Shows, run, Behaves}
 use Rattle.hx_lowering.specs.Lines.{Version}
 use Rattle.hx_lowering.specs.Draft.{Draft, put_word, no_targets, plain_version, draft_of, code_of}
 use Rattle.hx_lowering.specs.Draft as draft
-use Rattle.hx_lowering.specs.Serves.{serves, serves_functions, serves_function, serves_stmts}
 use Rattle.hx_lowering.proofs.Globals.{words_in}
 use Rattle.hx_lowering.proofs.Follow.{Follows, Reaches, follows_then, follows_so, steps_to, faults_at, at_once}
 use Rattle.hx_lowering.proofs.Setting.{Memory, Ground, Outside, Inside, setting_of, is_active, Back, returns_back}
@@ -43,7 +42,7 @@ use Rattle.hx_lowering.proofs.Arguments.{argument_at, drop-onto, length-with_arg
 use Rattle.hx_lowering.proofs.Stand.{words_of, spots_of, has_before, word_stands, length-put}
 use Rattle.hx_lowering.proofs.At.{layout_of, call_at, world_at, At, at_place, shows}
 use Rattle.hx_lowering.proofs.Names.{env_of, names_of, names_in, Around}
-use Rattle.hx_lowering.proofs.Values.{and_left, and_right, word_goes}
+use Rattle.hx_lowering.proofs.Values.{word_goes}
 use Rattle.hx_lowering.proofs.Scene.{Scene, Fair, Stands, Came, Holds, EndsBy, held}
 use Rattle.hx_lowering.proofs.Locals.{Tidy}
 use Rattle.hx_lowering.proofs.Drafts.{HasDraft, has_word}
@@ -66,10 +65,6 @@ all_lines q = record {
   regions = nothing_more (draft_of q).regions;
 }
 
-served_at : (fs : List resolved.Function) (i : ℕ) (f : resolved.Function) → IsTrue (serves_functions fs) → slice_get fs i ≡ Some f → IsTrue (serves_function f)
-served_at [] i f served at = absurd cc
-served_at (g ∷ fs) zero f served at = let same : g ≡ f = cc in subst (λ h. IsTrue (serves_function h)) same (and_left (serves_function g) (serves_functions fs) served)
-served_at (g ∷ fs) (suc i) f served at = served_at fs i f (and_right (serves_function g) (serves_functions fs) served) at
 
 accepted_at : (ks : _) (is : List Item) (i : ℕ) (f : Func) → All (AcceptsItem ks) is → slice_get (flat_map item_functions is) i ≡ Some f → AcceptsFunction ks f
 accepted_at ks [] i f ok at = absurd cc
@@ -100,7 +95,7 @@ frozen_active : (K : Ground) (cells : List ℤ) → is_active K ≡ true → fro
 frozen_active (Outside rest) cells e = absurd cc
 frozen_active (Inside o rest) cells e = refl
 
-module _ (p : Program) (accepted : IsAccepted p) (served : IsTrue (serves (resolve p))) where
+module _ (p : Program) (accepted : IsAccepted p) where
   abbrev pub C : CodeView
   C = code_of (resolve p)
 
@@ -180,7 +175,6 @@ module _ (p : Program) (accepted : IsAccepted p) (served : IsTrue (serves (resol
         subst (λ env. Follows C c.turns m ((effects it.it.body c env >>= (λ out. gives (returned out.0))) w) Done) (sym env_is)
         (follows_then C c.turns m (effects it.it.body c (env_of (scope ∷ []) (held s ps cells)) w) (λ out. gives (returned out.0)) (PartsEnd p C words s [] (length body.lines)) Done
         (parts_follow p C words it.it.body s fair (scope ∷ []) [] (scope, refl) (at_start (kinds_of p) it.it) around (λ e. absurd cc) (length xs) tidy (omega arith) function_ok.body
-          (served_at (resolve p).functions it.number F served at_number)
           (λ j e. refl) (λ j e. (refl, refl)) (λ j e. (refl, refl)) it_stands.before (has_body C F C.globals it_stands.before it_stands.stands) ps cells holds w m at)
         (λ out w' m' ends. ended K cells c out.0 _ w' m' ends))
 

@@ -30,7 +30,6 @@ use Rattle.hx_lowering.specs.declared.line.Line.{Line}
 use Rattle.hx_lowering.specs.Correct.{Shows, run, Behaves}
 use Rattle.hx_lowering.specs.Lines.{Version}
 use Rattle.hx_lowering.specs.Draft.{Draft, put_word, no_targets, no_draft, plain_version, function_at, function_draft, functions_draft, draft_of, code_of}
-use Rattle.hx_lowering.specs.Serves.{serves, serves_functions, serves_function, serves_stmts}
 use Rattle.hx_lowering.proofs.Globals.{words_in}
 use Rattle.hx_lowering.proofs.Follow.{Follows, Reaches, follows_so, after-sum}
 use Rattle.hx_lowering.proofs.Calls.{C, F, it_stands, scene, runs_function, calls_follow}
@@ -38,7 +37,7 @@ use Rattle.hx_lowering.proofs.Setting.{Memory, Ground, Outside, Ended, returns_b
 use Rattle.hx_lowering.proofs.Stand.{words_of, spots_of, has_before, word_stands, length-put}
 use Rattle.hx_lowering.proofs.At.{layout_of, call_at, world_at, At, at_place, shows}
 use Rattle.hx_lowering.proofs.Names.{env_of, names_of, names_in, Around}
-use Rattle.hx_lowering.proofs.Values.{and_left, and_right, word_goes}
+use Rattle.hx_lowering.proofs.Values.{word_goes}
 use Rattle.hx_lowering.proofs.Scene.{Scene, Fair, Stands, Came, Holds, EndsBy, held}
 use Rattle.hx_lowering.proofs.Locals.{Tidy}
 use Rattle.hx_lowering.proofs.Drafts.{HasDraft, has_word}
@@ -66,13 +65,13 @@ one_end code m e f i j h k = ⊎_elim (λ lt. sym (later_same code m e i j (omeg
 
 -- ---- main
 
-module _ (p : Program) (accepted : IsAccepted p) (served : IsTrue (serves (resolve p))) where
+module _ (p : Program) (accepted : IsAccepted p) where
   -- the main function, with its words
   main_it : IsFunction (codes "main") (functions_of p) (symbols_of p) 0 returns.Int 0
   main_it = function_is p (codes "main") returns.Int 0 accepted.has_main
 
-  main_stands : IsPlaced (C p accepted served) (F p accepted served (codes "main") returns.Int 0 main_it) (C p accepted served).globals main_it.number
-  main_stands = it_stands p accepted served (codes "main") returns.Int 0 main_it
+  main_stands : IsPlaced (C p accepted) (F p accepted (codes "main") returns.Int 0 main_it) (C p accepted).globals main_it.number
+  main_stands = it_stands p accepted (codes "main") returns.Int 0 main_it
 
   abbrev code_here : CodeView
   code_here = code_of (resolve p)
@@ -84,7 +83,7 @@ module _ (p : Program) (accepted : IsAccepted p) (served : IsTrue (serves (resol
   main_entry =
       let default : FuncView = record { name = []; entry = 0; parameters = 0; privates = 0 } in
       ap (λ n. (slice_index_or code_here.functions n default).entry) main_number
-      ∙ ap (λ (g : FuncView). g.entry) (get_or_from_slice_get code_here.functions main_it.number (function_at (F p accepted served (codes "main") returns.Int 0 main_it) (length main_stands.before.lines)) default main_stands.in_table)
+      ∙ ap (λ (g : FuncView). g.entry) (get_or_from_slice_get code_here.functions main_it.number (function_at (F p accepted (codes "main") returns.Int 0 main_it) (length main_stands.before.lines)) default main_stands.in_table)
 
   -- the run has ended
   abbrev Over : ℤ → World → Machine → Type 0
@@ -107,10 +106,10 @@ module _ (p : Program) (accepted : IsAccepted p) (served : IsTrue (serves (resol
       (record { memory = memory; is = refl; world = ap (λ st. record { store = st; text = []; turns = 0 }) (sym (begins p accepted input room)); room = has_room p accepted input room; cells_are = λ a. refl }) in
       subst (λ o. Follows code_here n m0 (run_function o [] (main_context p n) (opening_world p input)) Over) (sym main_it.named)
       (follows_so code_here n m0 (run_function (Some main_it.it) [] (main_context p n) (opening_world p input))
-      (λ v w m. Came p code_here (scene p accepted served (codes "main") returns.Int 0 main_it (Outside []) cells (main_context p n)) v w m) Over
+      (λ v w m. Came p code_here (scene p accepted (codes "main") returns.Int 0 main_it (Outside []) cells (main_context p n)) v w m) Over
       (λ v w m came. over v w m came.memory came.world came.back)
-      (runs_function p accepted served (codes "main") returns.Int 0 main_it (Outside []) (main_context p n) refl
-      (λ K e. calls_follow p accepted served (CALL_LIMIT - 1) K (omega (arith, e)) n)
+      (runs_function p accepted (codes "main") returns.Int 0 main_it (Outside []) (main_context p n) refl
+      (λ K e. calls_follow p accepted (CALL_LIMIT - 1) K (omega (arith, e)) n)
       [] refl blank cells (length-replicate PRIVATE_LIMIT (pos 0)) (λ i lt. absurd (omega arith)) (opening_world p input) m0 start))
 
   -- ---- both ways

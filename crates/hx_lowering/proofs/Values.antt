@@ -31,7 +31,6 @@ use Rattle.hx_code.specs.Machine.{Machine}
 use Rattle.hx_lowering.specs.declared.line.Line.{Line}
 use Rattle.hx_lowering.specs.Lines.{Version, put, cell_of, get_at, get_private, array_of, count, expr_lines, exprs_lines}
 use Rattle.hx_lowering.specs.Size.{expr_size}
-use Rattle.hx_lowering.specs.Serves.{serves_expr, serves_exprs}
 use Rattle.hx_lowering.proofs.Globals.{Layout, store_from, words_in, place_of}
 use Rattle.hx_lowering.proofs.Follow.{Follows, follows_then, follows_so, follows_last, at_once}
 use Rattle.hx_lowering.proofs.Setting.{Ground, is_active, Memory}
@@ -58,14 +57,6 @@ or_left a b e = ap (λ x. x || b) e
 pub or_right : (a b : Bool) → b ≡ true → (a || b) ≡ true
 or_right true b e = refl
 or_right false b e = e
-
-pub and_left : (a b : Bool) → IsTrue (a && b) → IsTrue a
-and_left true b h = refl
-and_left false b h = h
-
-pub and_right : (a b : Bool) → IsTrue (a && b) → IsTrue b
-and_right true b h = h
-and_right false b h = absurd cc
 
 truth_chosen : (b : Bool) → gives (truth (not b)) ≡ (if b then gives (pos 0) else gives (pos 1))
 truth_chosen true = refl
@@ -232,48 +223,48 @@ module _ (p : Program) (code : CodeView) (K : Ground) (v : Version) (words : cod
         (calling f r vs is (length lines) ps os cells w m at (word_stands code v h word lines has))
 
     mutual
-      pub value_follows : (e : tree.Expr) → AcceptsExpr e here → IsTrue (serves_expr (resolve_expr e (symbols_of p) scopes))
+      pub value_follows : (e : tree.Expr) → AcceptsExpr e here
           → (h : ℕ) (held : ℕ → ℤ) (ps os cells : List ℤ) → Reads v ps cells held (λ k. expr_reads k (resolve_expr e (symbols_of p) scopes))
           → (lines : List Line) → Has code (expr_lines (resolve_expr e (symbols_of p) scopes) v h lines)
           → (w : World) (m : Machine) → At p code K (length lines) ps os cells w m
           → Follows code n m (value e call (env_of scopes held) w) (Leaves (expr_lines (resolve_expr e (symbols_of p) scopes) v h lines) ps os cells)
-      value_follows (tree.Number k) ok served h held ps os cells reads lines has w m at =
+      value_follows (tree.Number k) ok h held ps os cells reads lines has w m at =
           word_goes n h ps ps os (pos k ∷ os) cells w m (Const (pos k)) lines (Gives (pos k) w) (Leaves (put v h (Const (pos k)) lines) ps os cells) has at refl (λ m' at'. value_at_once n m' _ ps os cells (pos k) w at')
-      value_follows (tree.Variable x) ok served h held ps os cells reads lines has w m at =
+      value_follows (tree.Variable x) ok h held ps os cells reads lines has w m at =
           subst (λ o. Follows code n m (read_by x o w) (Leaves (expr_lines (R (tree.Variable x)) v h lines) ps os cells))
           (sym (value_of scopes held x.text)) (variable_follows scopes here around x ok n h held ps os cells lines w m at (private_word scopes x.text) refl reads has)
-      value_follows (tree.Element x e) ok served h held ps os cells reads lines has w m at =
+      value_follows (tree.Element x e) ok h held ps os cells reads lines has w m at =
           let done = put v (h + 1) (Elem (array_of (words_named x (symbols_of p))) x.pos) (expr_lines (R e) v h lines) in
           follows_then code n m (value e call (env_of scopes held) w) (λ i. read_element x i) (Leaves (expr_lines (R e) v h lines) ps os cells) (Leaves done ps os cells)
-          (value_follows e ok.1 served h held ps os cells reads lines (has_before code v (h + 1) _ _ has) w m at)
+          (value_follows e ok.1 h held ps os cells reads lines (has_before code v (h + 1) _ _ has) w m at)
           (λ i w' m' at'. follows_last code n m' (read_element x i w') (Leaves done ps os cells)
           (element_follows n (h + 1) x i (words_named x (symbols_of p)) ps os cells w' m' (expr_lines (R e) v h lines) gives (Leaves done ps os cells) (array_is p scopes here x around ok.0) has at' (λ z m'' at''. value_at_once n m'' _ ps os cells z w' at'')))
-      value_follows (tree.Call f es) ok served h held ps os cells reads lines has w m at =
+      value_follows (tree.Call f es) ok h held ps os cells reads lines has w m at =
           let word = Call (function_at f (symbols_of p)) f.pos in
           let es' = exprs_lines (Rs es) v h lines in
           let done = put v (h + count (Rs es)) word es' in
           follows_then code n m (values es call (env_of scopes held) w) (λ vs. call f vs) (Stacks es es' ps os cells) (Leaves done ps os cells)
-          (values_follow es ok.1 served h held ps os cells reads lines (has_before code v (h + count (Rs es)) word es' has) w m at)
+          (values_follow es ok.1 h held ps os cells reads lines (has_before code v (h + count (Rs es)) word es' has) w m at)
           (λ vs w' m' up. call_leaves f returns.Int vs (function_here p scopes here f returns.Int (length vs) around (ok.0 ∙ ap (λ k. Some (FunctionKind returns.Int k)) (sym up.0)))
             (h + count (Rs es)) ps os cells es' has w' m' up.1)
-      value_follows (tree.Paren e) ok served h held ps os cells reads lines has w m at = value_follows e ok served h held ps os cells reads lines has w m at
-      value_follows (tree.Unary o e) ok served h held ps os cells reads lines has w m at =
+      value_follows (tree.Paren e) ok h held ps os cells reads lines has w m at = value_follows e ok h held ps os cells reads lines has w m at
+      value_follows (tree.Unary o e) ok h held ps os cells reads lines has w m at =
           let done = put v (h + 1) (Unary o) (expr_lines (R e) v h lines) in
           follows_then code n m (value e call (env_of scopes held) w) (λ x. gives (unary_value o x)) (Leaves (expr_lines (R e) v h lines) ps os cells) (Leaves done ps os cells)
-          (value_follows e ok served h held ps os cells reads lines (has_before code v (h + 1) _ _ has) w m at)
+          (value_follows e ok h held ps os cells reads lines (has_before code v (h + 1) _ _ has) w m at)
           (λ x w' m' at'. word_goes n (h + 1) ps ps (x ∷ os) (unary_value o x ∷ os) cells w' m' (Unary o) (expr_lines (R e) v h lines) (Gives (unary_value o x) w') (Leaves done ps os cells) has at' refl (λ m'' at''. value_at_once n m'' _ ps os cells (unary_value o x) w' at''))
-      value_follows (tree.Binary (Strict o) place l r) ok served h held ps os cells reads lines has w m at =
+      value_follows (tree.Binary (Strict o) place l r) ok h held ps os cells reads lines has w m at =
           let ls = expr_lines (R l) v h lines in
           let rs = expr_lines (R r) v (h + 1) ls in
           let has_r = has_before code v (h + 2) (Binary o place) rs has in
           let done = put v (h + 2) (Binary o place) rs in
           follows_then code n m (value l call (env_of scopes held) w) (λ x. value r call (env_of scopes held) >>= (λ y. operate o place x y)) (Leaves ls ps os cells) (Leaves done ps os cells)
-          (value_follows l ok.0 (and_left _ _ served) h held ps os cells (λ k e. reads k (or_left _ _ e)) lines (has_expr code (R r) v (h + 1) ls has_r) w m at)
+          (value_follows l ok.0 h held ps os cells (λ k e. reads k (or_left _ _ e)) lines (has_expr code (R r) v (h + 1) ls has_r) w m at)
           (λ x w' m' at'. follows_then code n m' (value r call (env_of scopes held) w') (λ y. operate o place x y) (Leaves rs ps (x ∷ os) cells) (Leaves done ps os cells)
-          (value_follows r ok.1 (and_right _ _ served) (h + 1) held ps (x ∷ os) cells (λ k e. reads k (or_right _ _ e)) ls has_r w' m' at')
+          (value_follows r ok.1 (h + 1) held ps (x ∷ os) cells (λ k e. reads k (or_right _ _ e)) ls has_r w' m' at')
           (λ y w'' m'' at''. follows_last code n m'' (operate o place x y w'') (Leaves done ps os cells)
           (operator_follows n (h + 2) o place x y ps os cells w'' m'' rs gives (Leaves done ps os cells) has at'' (λ z m3 at3. value_at_once n m3 _ ps os cells z w'' at3))))
-      value_follows (tree.Binary And place l r) ok served h held ps os cells reads lines has w m at =
+      value_follows (tree.Binary And place l r) ok h held ps os cells reads lines has w m at =
           let to = length lines + expr_size (R l) + 1 + expr_size (R r) + 3 in
           let a = expr_lines (R l) v h lines in
           let b = put v (h + 1) (JumpFalse to) a in
@@ -296,13 +287,13 @@ module _ (p : Program) (code : CodeView) (K : Ground) (v : Version) (words : cod
           (λ m'' at''. goes_to p code K n (length e) (to + 1) ps ps (pos 1 ∷ os) (pos 1 ∷ os) cells w' m'' (Jump (to + 1)) (Gives (pos 1) w') (Leaves done ps os cells) at'' (word_stands code v (h + 1) (Jump (to + 1)) e has_f) refl
           (λ m3 at3. value_at_once n m3 done ps os cells (pos 1) w' (at_place p code K (to + 1) (length done) ps (pos 1 ∷ os) cells w' m3 len' at3))) in
           follows_then code n m (value l call (env_of scopes held) w) (λ x. if is_zero x then gives (pos 0) else (value r call (env_of scopes held) >>= (λ y. gives (truth (not (is_zero y)))))) (Leaves a ps os cells) (Leaves done ps os cells)
-          (value_follows l ok.0 (and_left _ _ served) h held ps os cells (λ k e. reads k (or_left _ _ e)) lines (has_before code v (h + 1) (JumpFalse to) a has_b) w m at)
+          (value_follows l ok.0 h held ps os cells (λ k e. reads k (or_left _ _ e)) lines (has_before code v (h + 1) (JumpFalse to) a has_b) w m at)
           (λ x w' m' at'. jump_follows n (h + 1) to x ps os cells w' m' a (gives (pos 0)) (value r call (env_of scopes held) >>= (λ y. gives (truth (not (is_zero y))))) (Leaves done ps os cells) has_b at' (on_zero w')
           (λ m'' at''. follows_then code n m'' (value r call (env_of scopes held) w') (λ y. gives (truth (not (is_zero y)))) (Leaves c ps os cells) (Leaves done ps os cells)
-          (value_follows r ok.1 (and_right _ _ served) h held ps os cells (λ k e. reads k (or_right _ _ e)) b has_c w' m'' at'')
+          (value_follows r ok.1 h held ps os cells (λ k e. reads k (or_right _ _ e)) b has_c w' m'' at'')
           (λ y w3 m3 at3. subst (λ g. Follows code n m3 (g w3) (Leaves done ps os cells)) (sym (truth_chosen (is_zero y)))
           (jump_follows n (h + 1) to y ps os cells w3 m3 c (gives (pos 0)) (gives (pos 1)) (Leaves done ps os cells) has_d at3 (on_zero w3) (on_one w3)))))
-      value_follows (tree.Binary Or place l r) ok served h held ps os cells reads lines has w m at =
+      value_follows (tree.Binary Or place l r) ok h held ps os cells reads lines has w m at =
           let to = length lines + expr_size (R l) + 1 + expr_size (R r) + 3 in
           let a = expr_lines (R l) v h lines in
           let b = put v (h + 1) (JumpTrue to) a in
@@ -325,27 +316,27 @@ module _ (p : Program) (code : CodeView) (K : Ground) (v : Version) (words : cod
           (λ m'' at''. goes_to p code K n (length e) (to + 1) ps ps (pos 0 ∷ os) (pos 0 ∷ os) cells w' m'' (Jump (to + 1)) (Gives (pos 0) w') (Leaves done ps os cells) at'' (word_stands code v (h + 1) (Jump (to + 1)) e has_f) refl
           (λ m3 at3. value_at_once n m3 done ps os cells (pos 0) w' (at_place p code K (to + 1) (length done) ps (pos 0 ∷ os) cells w' m3 len' at3))) in
           follows_then code n m (value l call (env_of scopes held) w) (λ x. if not (is_zero x) then gives (pos 1) else (value r call (env_of scopes held) >>= (λ y. gives (truth (not (is_zero y)))))) (Leaves a ps os cells) (Leaves done ps os cells)
-          (value_follows l ok.0 (and_left _ _ served) h held ps os cells (λ k e. reads k (or_left _ _ e)) lines (has_before code v (h + 1) (JumpTrue to) a has_b) w m at)
+          (value_follows l ok.0 h held ps os cells (λ k e. reads k (or_left _ _ e)) lines (has_before code v (h + 1) (JumpTrue to) a has_b) w m at)
           (λ x w' m' at'. jump_true_follows n (h + 1) to x ps os cells w' m' a (gives (pos 1)) (value r call (env_of scopes held) >>= (λ y. gives (truth (not (is_zero y))))) (Leaves done ps os cells) has_b at' (on_one w')
           (λ m'' at''. follows_then code n m'' (value r call (env_of scopes held) w') (λ y. gives (truth (not (is_zero y)))) (Leaves c ps os cells) (Leaves done ps os cells)
-          (value_follows r ok.1 (and_right _ _ served) h held ps os cells (λ k e. reads k (or_right _ _ e)) b has_c w' m'' at'')
+          (value_follows r ok.1 h held ps os cells (λ k e. reads k (or_right _ _ e)) b has_c w' m'' at'')
           (λ y w3 m3 at3. subst (λ g. Follows code n m3 (g w3) (Leaves done ps os cells)) (sym (truth_decided (is_zero y)))
           (jump_true_follows n (h + 1) to y ps os cells w3 m3 c (gives (pos 1)) (gives (pos 0)) (Leaves done ps os cells) has_d at3 (on_one w3) (on_zero w3)))))
 
-      pub values_follow : (es : tree.Exprs) → AcceptsExprs es here → IsTrue (serves_exprs (resolve_exprs es (symbols_of p) scopes))
+      pub values_follow : (es : tree.Exprs) → AcceptsExprs es here
           → (h : ℕ) (held : ℕ → ℤ) (ps os cells : List ℤ) → Reads v ps cells held (λ k. exprs_read k (resolve_exprs es (symbols_of p) scopes))
           → (lines : List Line) → Has code (exprs_lines (resolve_exprs es (symbols_of p) scopes) v h lines)
           → (w : World) (m : Machine) → At p code K (length lines) ps os cells w m
           → Follows code n m (values es call (env_of scopes held) w) (Stacks es (exprs_lines (resolve_exprs es (symbols_of p) scopes) v h lines) ps os cells)
-      values_follow tree.no_exprs ok served h held ps os cells reads lines has w m at =
+      values_follow tree.no_exprs ok h held ps os cells reads lines has w m at =
           at_once code m (λ m'. (0 ≡ 0) × At p code K (length lines) ps os cells w m') (refl, at)
-      values_follow (tree.expr_and e es) ok served h held ps os cells reads lines has w m at =
+      values_follow (tree.expr_and e es) ok h held ps os cells reads lines has w m at =
           let a = expr_lines (R e) v h lines in
           let done = exprs_lines (Rs es) v (h + 1) a in
           let Done = Stacks (tree.expr_and e es) done ps os cells in
           follows_then code n m (value e call (env_of scopes held) w) (λ x. values es call (env_of scopes held) >>= (λ xs. gives (x ∷ xs))) (Leaves a ps os cells) Done
-          (value_follows e ok.0 (and_left _ _ served) h held ps os cells (λ k r. reads k (or_left _ _ r)) lines (has_exprs code (Rs es) v (h + 1) a has) w m at)
+          (value_follows e ok.0 h held ps os cells (λ k r. reads k (or_left _ _ r)) lines (has_exprs code (Rs es) v (h + 1) a has) w m at)
           (λ x w' m' at'. follows_then code n m' (values es call (env_of scopes held) w') (λ xs. gives (x ∷ xs)) (Stacks es done ps (x ∷ os) cells) Done
-          (values_follow es ok.1 (and_right _ _ served) (h + 1) held ps (x ∷ os) cells (λ k r. reads k (or_right _ _ r)) a has w' m' at')
+          (values_follow es ok.1 (h + 1) held ps (x ∷ os) cells (λ k r. reads k (or_right _ _ r)) a has w' m' at')
           (λ xs w'' m'' up. let one : length (x ∷ xs) ≡ 1 + tree_count es = (let q = up.0 in omega arith) in
           at_once code m'' (λ q. Done (x ∷ xs) w'' q) (one, up.1)))
