@@ -12,7 +12,6 @@ use Rattle.hx_check.specs.Carried.{stmt_reads, stmts_read, stmt_assigns, stmts_a
 use Rattle.hx_check.specs.Resolve.{Around, resolve_stmt, resolve_parts, resolve_locals, resolve_init, simples_then, words_after_part, expr_or_zero}
 use Rattle.hx_lowering.specs.Lines.{Version, simples_lines}
 use Rattle.hx_lowering.specs.Draft.{Draft, Targets, with_lines, stmt_draft, stmts_draft}
-use Rattle.hx_lowering.specs.Serves.{serves_simple, serves_simples, serves_stmts}
 
 or_assoc : (a b c : Bool) → ((a || b) || c) ≡ (a || (b || c))
 or_assoc true b c = refl
@@ -36,9 +35,6 @@ pub declares_then : (ss : List resolved.Simple) (rest : resolved.Stmts) (j : ℕ
 declares_then [] rest j = refl
 declares_then (s ∷ ss) rest j = or_assoc (simple_declares j s) (any_of (simple_declares j) ss) (stmts_declare j rest) ∙ ap (λ b. simple_declares j s || b) (declares_then ss rest j)
 
-pub serves_then : (ss : List resolved.Simple) (rest : resolved.Stmts) → serves_stmts (simples_then ss rest) ≡ (serves_simples ss && serves_stmts rest)
-serves_then [] rest = refl
-serves_then (s ∷ ss) rest = ap (λ b. serves_simple s && b) (serves_then ss rest) ∙ sym (and_assoc (serves_simple s) (serves_simples ss) (serves_stmts rest))
 
 pub draft_then : (ss : List resolved.Simple) (rest : resolved.Stmts) (v : Version) (to : Targets) (d : Draft) → stmts_draft (simples_then ss rest) v to d ≡ stmts_draft rest v to (with_lines d (simples_lines ss v d.lines))
 draft_then [] rest v to d = refl

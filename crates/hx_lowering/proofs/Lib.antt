@@ -24,3 +24,7 @@ pub mod Cells
 pub mod Taken
 pub mod Declares
 pub mod Statements
+pub mod Deeper
+pub mod Calling
+pub mod Arguments
+pub mod Calls

@@ -20,7 +20,6 @@ use Rattle.hx_lowering.specs.declared.line.Line.{Line}
 use Rattle.hx_lowering.specs.Lines.{Version, put, expr_lines, test_lines, step_lines}
 use Rattle.hx_lowering.specs.Size.{test_size, step_size, turn_size, stmt_size}
 use Rattle.hx_lowering.specs.Draft.{Draft, Targets, with_lines, put_word, targets, turn_draft, plain_draft, stmt_draft}
-use Rattle.hx_lowering.specs.Serves.{serves_test, serves_step}
 use Rattle.hx_lowering.proofs.Globals.{words_in}
 use Rattle.hx_lowering.proofs.Follow.{Follows, follows_then, follows_fewer, at_once}
 use Rattle.hx_lowering.proofs.Setting.{Ground}
@@ -34,34 +33,41 @@ use Rattle.hx_lowering.proofs.Locals.{Tidy}
 use Rattle.hx_lowering.proofs.Drafts.{HasDraft, has_word, has_lines, has_step, has_test, has_stmt, length-test, length-step, length-stmt}
 
 module _ (p : Program) (code : CodeView) (words : code.globals ≡ words_in (layout_of p)) where
-  module _ (s : Scene) (fair : Fair p code s) (next : ℕ) (scopes : Scopes) (tidy : Tidy next scopes) (fits : next ≤ s.privates) (here : Surroundings) (around : Around p scopes here) (call : Calling) where
+  module _ (s : Scene) (fair : Fair p code s) (next : ℕ) (scopes : Scopes) (tidy : Tidy next scopes) (fits : next ≤ s.privates) (here : Surroundings) (around : Around p scopes here) where
+    abbrev call : Calling
+    call = call_in s.context
+
+    abbrev n : ℕ
+    n = s.context.turns
+
     -- a test and its jump
-    pub test_here : {A : Type 0} (o : Option tree.Expr) → IfThere AcceptsExpr o here → IsTrue (serves_test (option_map (λ e. resolve_expr e (symbols_of p) scopes) o))
+    pub test_here : {A : Type 0} (o : Option tree.Expr) → IfThere AcceptsExpr o here
         → Free s (λ k. if_any (expr_reads k) (option_map (λ e. resolve_expr e (symbols_of p) scopes) o))
-        → (n exit : ℕ) (ps cells : List ℤ) (lines : List Line) → Has code (test_lines (option_map (λ e. resolve_expr e (symbols_of p) scopes) o) exit s.version lines)
+        → (n exit : ℕ) → n ≤ s.context.turns → (ps cells : List ℤ) (lines : List Line) → Has code (test_lines (option_map (λ e. resolve_expr e (symbols_of p) scopes) o) exit s.version lines)
         → (w : World) (m : Machine) → At p code s.ground (length lines) ps [] cells w m → (f g : Run A) (Done : A → World → Machine → Type 0)
         → ((w' : World) (m' : Machine) → At p code s.ground exit ps [] cells w' m' → Follows code n m' (f w') Done)
         → ((w' : World) (m' : Machine) → At p code s.ground (length (test_lines (option_map (λ e. resolve_expr e (symbols_of p) scopes) o) exit s.version lines)) ps [] cells w' m' → Follows code n m' (g w') Done)
         → Follows code n m ((value_or (pos 1) o call (env_of scopes (held s ps cells)) >>= (λ v. if is_zero v then f else g)) w) Done
-    test_here None ok served free n exit ps cells lines has w m at f g Done kf kg = kg w m at
-    test_here (Some e) ok served free n exit ps cells lines has w m at f g Done kf kg =
+    test_here None ok free n exit le ps cells lines has w m at f g Done kf kg = kg w m at
+    test_here (Some e) ok free n exit le ps cells lines has w m at f g Done kf kg =
         let es = expr_lines (resolve_expr e (symbols_of p) scopes) s.version 0 lines in
         follows_then code n m (value e call (env_of scopes (held s ps cells)) w) (λ v. if is_zero v then f else g) (Leaves p code s.ground s.version words fair.globals fair.carries es ps [] cells) Done
-        (value_here p code words s fair next scopes tidy fits here around call e ok served free n 0 ps [] cells lines (has_before code s.version 1 (JumpFalse exit) es has) w m at)
+        (follows_fewer code s.context.turns n m (value e call (env_of scopes (held s ps cells)) w) _ le
+        (value_here p code words s fair next scopes tidy fits here around e ok free 0 ps [] cells lines (has_before code s.version 1 (JumpFalse exit) es has) w m at))
         (λ x w' m' at'. jump_follows p code s.ground s.version words fair.globals fair.carries n 1 exit x ps [] cells w' m' es f g Done has at' (kf w') (kg w'))
 
     -- a step
-    pub step_here : (o : Option tree.Assignment) → IfThere AcceptsAssignment o here → IsTrue (serves_step (option_map (λ a. resolve_assignment a (symbols_of p) scopes) o))
+    pub step_here : (o : Option tree.Assignment) → IfThere AcceptsAssignment o here
         → Free s (λ k. if_any (assignment_reads k) (option_map (λ a. resolve_assignment a (symbols_of p) scopes) o))
         → Loose s (λ k. if_any (assigns k) (option_map (λ a. resolve_assignment a (symbols_of p) scopes) o))
-        → (n : ℕ) (lines : List Line) → Has code (step_lines (option_map (λ a. resolve_assignment a (symbols_of p) scopes) o) s.version lines)
+        → (lines : List Line) → Has code (step_lines (option_map (λ a. resolve_assignment a (symbols_of p) scopes) o) s.version lines)
         → (env : Environment) (w : World) (m : Machine) → Stands p code s scopes (length lines) env w m
         → Follows code n m (step_of o call env w) (λ env' w' m'. Stands p code s scopes (length (step_lines (option_map (λ a. resolve_assignment a (symbols_of p) scopes) o) s.version lines)) env' w' m')
-    step_here None ok served free loose n lines has env w m stands = at_once code m (λ m'. Stands p code s scopes (length lines) env w m') stands
-    step_here (Some a) ok served free loose n lines has env w m stands =
+    step_here None ok free loose lines has env w m stands = at_once code m (λ m'. Stands p code s scopes (length lines) env w m') stands
+    step_here (Some a) ok free loose lines has env w m stands =
         subst (λ x. Follows code n m (step_of (Some a) call x w) (λ env' w' m'. Stands p code s scopes (length (step_lines (Some (resolve_assignment a (symbols_of p) scopes)) s.version lines)) env' w' m'))
         (sym stands.env_is)
-        (assign_follows p code words s fair next scopes tidy fits here around call a ok served free loose n stands.ps stands.cells stands.holds lines has w m stands.at)
+        (assign_follows p code words s fair next scopes tidy fits here around a ok free loose stands.ps stands.cells stands.holds lines has w m stands.at)
 
   -- ---- a plain loop
 
@@ -85,7 +91,6 @@ module _ (p : Program) (code : CodeView) (words : code.globals ≡ words_in (lay
   pub plain_follows : (s : Scene) (marked : Bool) (c : Context) (next : ℕ) (scopes : Scopes) → Tidy next scopes → next ≤ s.privates → (here : Surroundings) → Around p scopes here
       → (init : List Simple) (test : Option tree.Expr) (step : Option tree.Assignment) (rb : resolved.Stmt) (body : Environment → Effect) (counted : Bool) → counted ≡ false
       → IfThere AcceptsExpr test here → IfThere AcceptsAssignment step here
-      → IsTrue (serves_test (clauses_of scopes init test step).test) → IsTrue (serves_step (clauses_of scopes init test step).step)
       → Free s (λ k. if_any (expr_reads k) (clauses_of scopes init test step).test) → Free s (λ k. if_any (assignment_reads k) (clauses_of scopes init test step).step) → Loose s (λ k. if_any (assigns k) (clauses_of scopes init test step).step)
       → (d : Draft) → HasDraft code (plain_draft (clauses_of scopes init test step) (stmt_size rb) (λ to d'. stmt_draft rb s.version to d') s.version d)
       → Fair p code (within s (targets (clauses_of scopes init test step) (stmt_size rb) (length d.lines)) marked c)
@@ -95,7 +100,7 @@ module _ (p : Program) (code : CodeView) (words : code.globals ≡ words_in (lay
       → (ps cells : List ℤ) → Holds s ps cells → (w : World) (m : Machine) → At p code s.ground (length d.lines) ps [] cells w m
       → Follows code c.turns m (loop c.turns counted (value_or (pos 1) test (call_in c)) body (step_of step (call_in c)) (env_of scopes (held s ps cells)) w)
         (Ends p code s scopes (length (plain_draft (clauses_of scopes init test step) (stmt_size rb) (λ to d'. stmt_draft rb s.version to d') s.version d).lines))
-  plain_follows s marked c next scopes tidy fits here around init test step rb body counted none ok_test ok_step served_test served_step free_test free_step loose_step d has fair hb ps cells holds w m at =
+  plain_follows s marked c next scopes tidy fits here around init test step rb body counted none ok_test ok_step free_test free_step loose_step d has fair hb ps cells holds w m at =
       let cs = clauses_of scopes init test step in
       let v = s.version in
       let size = stmt_size rb in
@@ -118,9 +123,9 @@ module _ (p : Program) (code : CodeView) (words : code.globals ≡ words_in (lay
       let env0 = env_of scopes (held s ps cells) in
       subst (λ b. Follows code c.turns m (loop c.turns b (value_or (pos 1) test (call_in c)) body (step_of step (call_in c)) env0 w) Done) (sym none)
       (turns_follow p code si scopes start (length d1.lines) (length d3.lines) false (value_or (pos 1) test (call_in c)) body (step_of step (call_in c)) Done
-      (λ n le ps' cells' holds' w' m' at' f g kf kg. test_here si fair next scopes tidy fits here around (call_in c) test ok_test served_test free_test n exit ps' cells' d.lines has1.lines w' m' at' f g Done kf kg)
+      (λ n le ps' cells' holds' w' m' at' f g kf kg. test_here si fair next scopes tidy fits here around test ok_test free_test n exit le ps' cells' d.lines has1.lines w' m' at' f g Done kf kg)
       (λ ps' cells' holds' w' m' at'. subst (λ q. Follows code c.turns m' (body (env_of scopes (held s ps' cells')) w') (Ends p code si scopes q)) at_step (hb ps' cells' (outer_holds ps' cells' holds') w' m' at' has2))
-      (λ env' w' m' stands. step_here si fair next scopes tidy fits here around (call_in c) step ok_step served_step free_step loose_step c.turns d2.lines has3.lines env' w' m'
+      (λ env' w' m' stands. step_here si fair next scopes tidy fits here around step ok_step free_step loose_step d2.lines has3.lines env' w' m'
         (subst (λ q. Stands p code si scopes q env' w' m') (sym at_step) stands))
       (λ n env' w' m' next stands k. turns_back p code s.ground n (length d3.lines) start stands.ps stands.ps [] [] stands.cells w' m' (Jump start) (next env' w') Done stands.at (word_stands code v 0 (Jump start) d3.lines has.lines) refl
         (λ m'' at''. k stands.ps stands.cells stands.holds w' m'' at'' stands.env_is))

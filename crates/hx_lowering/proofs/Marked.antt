@@ -19,7 +19,6 @@ use Rattle.hx_code.specs.Machine.{Machine, machine_step}
 use Rattle.hx_lowering.specs.Lines.{Version}
 use Rattle.hx_lowering.specs.Size.{turn_size, test_size, stmt_size}
 use Rattle.hx_lowering.specs.Draft.{Draft, Targets, with_lines, put_word, inside, targets, plain_draft, turns_draft, region_at, region_draft, loop_draft, stmt_draft}
-use Rattle.hx_lowering.specs.Serves.{serves_test, serves_step}
 use Rattle.hx_lowering.proofs.Globals.{words_in}
 use Rattle.hx_lowering.proofs.Follow.{Follows, steps_to}
 use Rattle.hx_lowering.proofs.Setting.{Ground, Outside, Inside, Opener, is_active, enters_plain, setting_of}
@@ -73,7 +72,6 @@ module _ (p : Program) (code : CodeView) (words : code.globals ≡ words_in (lay
   module _ (s : Scene) (next : ℕ) (scopes : Scopes) (tidy : Tidy next scopes) (fits : next ≤ s.privates) (here : Surroundings) (around : Around p scopes here)
       (init : List Simple) (test : Option tree.Expr) (step : Option tree.Assignment) (rb : resolved.Stmt) (body : Context → Environment → Effect)
       (ok_test : IfThere AcceptsExpr test here) (ok_step : IfThere AcceptsAssignment step here)
-      (served_test : IsTrue (serves_test (clauses_of p code words scopes init test step).test)) (served_step : IsTrue (serves_step (clauses_of p code words scopes init test step).step))
       (free_test : Free s (λ k. if_any (expr_reads k) (clauses_of p code words scopes init test step).test)) (free_step : Free s (λ k. if_any (assignment_reads k) (clauses_of p code words scopes init test step).step)) (loose_step : Loose s (λ k. if_any (assigns k) (clauses_of p code words scopes init test step).step)) where
 
     abbrev meant : Bool → Environment → Run (Exit × Environment)
@@ -95,9 +93,9 @@ module _ (p : Program) (code : CodeView) (words : code.globals ≡ words_in (lay
         → (ps cells : List ℤ) → Holds s ps cells → (w : World) (m : Machine) → At p code s.ground (length d.lines) ps [] cells w m
         → Follows code s.context.turns m (meant marked (env_of scopes (held s ps cells)) w) (Ends p code (marked_scene s im) scopes (length (plain_draft (Cs scopes init test step) (stmt_size rb) (draw s.version) s.version d).lines))
     plain_loop marked im fair none active mark hb d has ps cells holds w m at =
-        let fair_in : Fair p code (within p code words s (plain_targets (Cs scopes init test step) rb d) (im || marked) (inside_context marked s.context)) = record { globals = fair.globals; carries = fair.carries; active = active; marked = mark; loose = fair.loose; thawed = fair.thawed; apart = fair.apart; small = fair.small; still = fair.still; few = fair.few } in
+        let fair_in : Fair p code (within p code words s (plain_targets (Cs scopes init test step) rb d) (im || marked) (inside_context marked s.context)) = record { globals = fair.globals; carries = fair.carries; active = active; marked = mark; loose = fair.loose; thawed = fair.thawed; apart = fair.apart; small = fair.small; still = fair.still; few = fair.few; calls = fair.calls } in
         plain_follows p code words (marked_scene s im) (im || marked) (inside_context marked s.context) next scopes tidy fits here around init test step rb (body (inside_context marked s.context)) (is_counted marked s.context) none
-        ok_test ok_step served_test served_step free_test free_step loose_step d has fair_in (λ ps' cells' holds' w' m' at' has'. hb d fair_in ps' cells' (unmarked im ps' cells' holds') w' m' at' has') ps cells (remarked im ps cells holds) w m at
+        ok_test ok_step free_test free_step loose_step d has fair_in (λ ps' cells' holds' w' m' at' has'. hb d fair_in ps' cells' (unmarked im ps' cells' holds') w' m' at' has') ps cells (remarked im ps cells holds) w m at
 
     -- a marked loop while a region is active: past the region's version
     active_loop : (o : Opener) (rest : List CallView) (r : resolved.Region) → s.ground ≡ Inside o rest → Fair p code (marked_scene s false)
@@ -134,7 +132,6 @@ module _ (p : Program) (code : CodeView) (words : code.globals ≡ words_in (lay
   region_loop : (g : Ground) (s : Scene) (next : ℕ) (scopes : Scopes) (tidy : Tidy next scopes) (fits : next ≤ s.privates) (here : Surroundings) (around : Around p scopes here)
       (init : List Simple) (test : Option tree.Expr) (step : Option tree.Assignment) (rb : resolved.Stmt) (body : Context → Environment → Effect)
       (ok_test : IfThere AcceptsExpr test here) (ok_step : IfThere AcceptsAssignment step here)
-      (served_test : IsTrue (serves_test (clauses_of p code words scopes init test step).test)) (served_step : IsTrue (serves_step (clauses_of p code words scopes init test step).step))
       (free_test : Free s (λ k. if_any (expr_reads k) (clauses_of p code words scopes init test step).test)) (free_step : Free s (λ k. if_any (assignment_reads k) (clauses_of p code words scopes init test step).step))
       (loose_step : Loose s (λ k. if_any (assigns k) (clauses_of p code words scopes init test step).step)) → Fair p code (marked_scene (record s { ground = g }) false)
       → Flat p code words rb → ((k : ℕ) → k < next → turns_declare k rb ≡ false)
@@ -145,22 +142,21 @@ module _ (p : Program) (code : CodeView) (words : code.globals ≡ words_in (lay
       → Follows code s.context.turns m
         (loop s.context.turns (is_counted true s.context) (value_or (pos 1) test (call_in (inside_context true s.context))) (body (inside_context true s.context)) (step_of step (call_in (inside_context true s.context))) (env_of scopes (held s ps cells)) w)
         (Ends p code (marked_scene (record s { ground = g }) false) scopes (length (whole p code words (region_of s.privates (Cs scopes init test step) rb) (Cs scopes init test step) rb s.version d).lines))
-  region_loop (Inside o rest) s next scopes tidy fits here around init test step rb body ok_test ok_step served_test served_step free_test free_step loose_step fair flat declares hp mk hr d has ps cells holds w m at =
-      active_loop (record s { ground = Inside o rest }) next scopes tidy fits here around init test step rb body ok_test ok_step served_test served_step free_test free_step loose_step o rest (region_of s.privates (Cs scopes init test step) rb) refl fair hp d has ps cells holds w m at
-  region_loop (Outside rest) s next scopes tidy fits here around init test step rb body ok_test ok_step served_test served_step free_test free_step loose_step fair flat declares hp mk hr d has ps cells holds w m at =
+  region_loop (Inside o rest) s next scopes tidy fits here around init test step rb body ok_test ok_step free_test free_step loose_step fair flat declares hp mk hr d has ps cells holds w m at =
+      active_loop (record s { ground = Inside o rest }) next scopes tidy fits here around init test step rb body ok_test ok_step free_test free_step loose_step o rest (region_of s.privates (Cs scopes init test step) rb) refl fair hp d has ps cells holds w m at
+  region_loop (Outside rest) s next scopes tidy fits here around init test step rb body ok_test ok_step free_test free_step loose_step fair flat declares hp mk hr d has ps cells holds w m at =
       let counted : is_counted true s.context ≡ true = ap not fair.active in
       let c = inside_context true s.context in
       let cs = Cs scopes init test step in
       subst (λ b. Follows code s.context.turns m (loop s.context.turns b (value_or (pos 1) test (call_in c)) (body c) (step_of step (call_in c)) (env_of scopes (held s ps cells)) w)
         (Ends p code (marked_scene (record s { ground = Outside rest }) false) scopes (length (whole p code words (region_of s.privates cs rb) cs rb s.version d).lines))) (sym counted)
-      (region_opens p code words (marked_scene s false) mk rest c next scopes tidy fits here around init test step rb (body c) ok_test ok_step served_test served_step flat declares d has fair (or_true s.context.is_active)
+      (region_opens p code words (marked_scene s false) mk rest c next scopes tidy fits here around init test step rb (body c) ok_test ok_step flat declares d has fair (or_true s.context.is_active) fair.calls
         (λ o number fair' ps' cells' holds' w' m' at' has'. hr d o number fair' ps' cells' holds' w' m' at' has') ps cells (record { long = holds.long; keeps = holds.keeps; freezes = holds.freezes }) w m at)
 
   -- THE loops
   pub loop_follows : (marked im : Bool) (s : Scene) (next : ℕ) (scopes : Scopes) (tidy : Tidy next scopes) (fits : next ≤ s.privates) (here : Surroundings) (around : Around p scopes here)
       (init : List Simple) (test : Option tree.Expr) (step : Option tree.Assignment) (rb : resolved.Stmt) (body : Context → Environment → Effect)
       (ok_test : IfThere AcceptsExpr test here) (ok_step : IfThere AcceptsAssignment step here)
-      (served_test : IsTrue (serves_test (clauses_of p code words scopes init test step).test)) (served_step : IsTrue (serves_step (clauses_of p code words scopes init test step).step))
       (free_test : Free s (λ k. if_any (expr_reads k) (clauses_of p code words scopes init test step).test)) (free_step : Free s (λ k. if_any (assignment_reads k) (clauses_of p code words scopes init test step).step)) (loose_step : Loose s (λ k. if_any (assigns k) (clauses_of p code words scopes init test step).step))
       → Fair p code (marked_scene s im)
       → (marked ≡ true → Flat p code words rb) → ((k : ℕ) → k < next → turns_declare k rb ≡ false)
@@ -171,9 +167,9 @@ module _ (p : Program) (code : CodeView) (words : code.globals ≡ words_in (lay
       → Follows code s.context.turns m
         (loop s.context.turns (is_counted marked s.context) (value_or (pos 1) test (call_in (inside_context marked s.context))) (body (inside_context marked s.context)) (step_of step (call_in (inside_context marked s.context))) (env_of scopes (held s ps cells)) w)
         (Ends p code (marked_scene s im) scopes (length (loop_draft (kind_if (marked && not im) s.privates (Cs scopes init test step) rb) (Cs scopes init test step) (stmt_size rb) (λ v to d'. stmt_draft rb v to d') s.version d).lines))
-  loop_follows false im s next scopes tidy fits here around init test step rb body ok_test ok_step served_test served_step free_test free_step loose_step fair flat declares hp mk hr d has ps cells holds w m at =
-      plain_loop s next scopes tidy fits here around init test step rb body ok_test ok_step served_test served_step free_test free_step loose_step false im fair refl (or_false s.context.is_active ∙ fair.active) (λ e. fair.marked (sym (or_false im) ∙ e)) hp d has ps cells holds w m at
-  loop_follows true true s next scopes tidy fits here around init test step rb body ok_test ok_step served_test served_step free_test free_step loose_step fair flat declares hp mk hr d has ps cells holds w m at =
-      plain_loop s next scopes tidy fits here around init test step rb body ok_test ok_step served_test served_step free_test free_step loose_step true true fair (ap not (fair.active ∙ fair.marked refl)) (or_true s.context.is_active ∙ sym (fair.marked refl)) (λ e. fair.marked refl) hp d has ps cells holds w m at
-  loop_follows true false s next scopes tidy fits here around init test step rb body ok_test ok_step served_test served_step free_test free_step loose_step fair flat declares hp mk hr d has ps cells holds w m at =
-      region_loop s.ground s next scopes tidy fits here around init test step rb body ok_test ok_step served_test served_step free_test free_step loose_step fair (flat refl) declares hp mk (hr refl refl) d has ps cells holds w m at
+  loop_follows false im s next scopes tidy fits here around init test step rb body ok_test ok_step free_test free_step loose_step fair flat declares hp mk hr d has ps cells holds w m at =
+      plain_loop s next scopes tidy fits here around init test step rb body ok_test ok_step free_test free_step loose_step false im fair refl (or_false s.context.is_active ∙ fair.active) (λ e. fair.marked (sym (or_false im) ∙ e)) hp d has ps cells holds w m at
+  loop_follows true true s next scopes tidy fits here around init test step rb body ok_test ok_step free_test free_step loose_step fair flat declares hp mk hr d has ps cells holds w m at =
+      plain_loop s next scopes tidy fits here around init test step rb body ok_test ok_step free_test free_step loose_step true true fair (ap not (fair.active ∙ fair.marked refl)) (or_true s.context.is_active ∙ sym (fair.marked refl)) (λ e. fair.marked refl) hp d has ps cells holds w m at
+  loop_follows true false s next scopes tidy fits here around init test step rb body ok_test ok_step free_test free_step loose_step fair flat declares hp mk hr d has ps cells holds w m at =
+      region_loop s.ground s next scopes tidy fits here around init test step rb body ok_test ok_step free_test free_step loose_step fair (flat refl) declares hp mk (hr refl refl) d has ps cells holds w m at

@@ -6,7 +6,8 @@ use Rattle.std.proofs.lemmas.Option.{slice_get-get_or, slice_get_past}
 use Rattle.std.proofs.lemmas.Bool.{ltb-true, ltb-false}
 use Rattle.hx_tree.specs.Tree.{Name, Program}
 use Rattle.hx_tree.specs.World.{Map, look_up, Environment, local_value, first_of, words_of, word_at}
-use Rattle.hx_tree.specs.Accepted.{Kind, IntKind, ArrayKind, Surroundings, is_among, is_local, kind_of, kinds_of}
+use Rattle.hx_tree.specs.declared.tree.Returns.{Returns}
+use Rattle.hx_tree.specs.Accepted.{Kind, IntKind, ArrayKind, FunctionKind, Surroundings, is_among, is_local, kind_of, kinds_of}
 use Rattle.hx_check.specs.declared.resolved.Words.{Words}
 use Rattle.hx_check.specs.declared.symbol.Symbol.TheVariants as symbol
 use Rattle.hx_check.specs.Symbols.{Scopes, private_word, symbols_of}
@@ -104,6 +105,15 @@ array_is p scopes here x a k = go (private_word scopes x.text) refl
         let found : Agree (Some ArrayKind) (look_up (symbols_of p) x.text) (place_of (layout_of p) 0 x.text) = subst (λ o. Agree o (look_up (symbols_of p) x.text) (place_of (layout_of p) 0 x.text)) kind (agrees p x.text) in
         let words : words_named x (symbols_of p) ≡ record { base = found.0; length = found.1 } = ap (λ s. or_else (array_words s) no_words) found.2 in
         found.3 ∙ ap Some (sym words)
+
+-- a function, which is never a local
+pub function_here : (p : Program) (scopes : Scopes) (here : Surroundings) (x : Name) (r : Returns) (k : ℕ) → Around p scopes here → kind_of x here ≡ Some (FunctionKind r k)
+    → look_up (kinds_of p) x.text ≡ Some (FunctionKind r k)
+function_here p scopes here x r n a k = go (private_word scopes x.text) refl
+  where
+    go : (o : Option ℕ) → private_word scopes x.text ≡ o → look_up (kinds_of p) x.text ≡ Some (FunctionKind r n)
+    go (Some j) e = let h : Some IntKind ≡ Some (FunctionKind r n) = sym (kind_is p scopes here x (Some j) a e) ∙ k in absurd cc
+    go None e = sym (kind_is p scopes here x None a e) ∙ k
 
 -- ---- words of a global
 

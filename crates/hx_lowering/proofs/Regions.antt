@@ -27,13 +27,14 @@ use Rattle.hx_lowering.specs.declared.line.Line.{Line}
 use Rattle.hx_lowering.specs.Lines.{Version, put, cell_of, test_lines, step_lines}
 use Rattle.hx_lowering.specs.Size.{test_size, step_size, turn_size, stmt_size}
 use Rattle.hx_lowering.specs.Draft.{Draft, Targets, with_lines, put_word, inside, cells_from, targets, turn_draft, plain_draft, turns_draft, region_at, region_draft, stmt_draft}
-use Rattle.hx_lowering.specs.Serves.{serves_test, serves_step}
 use Rattle.hx_lowering.proofs.Globals.{Layout, store_from, words_in, elsewhere_behind}
 use Rattle.hx_lowering.proofs.Follow.{Follows, steps_to, turns_to, at_once}
 use Rattle.hx_lowering.proofs.Setting.{Memory, Ground, Outside, Inside, Opener, is_active, at_outside, at_inside, opens_at, turns_at, leaves_at, enters_plain, memory_behind, Back, setting_of}
 use Rattle.hx_lowering.proofs.Stand.{Has, has_before, word_stands, length-put}
 use Rattle.hx_lowering.proofs.At.{layout_of, call_at, world_at, At, at_place}
 use Rattle.hx_lowering.proofs.Names.{env_of, Around}
+use Rattle.hx_lowering.proofs.Deeper.{depth_of}
+use Rattle.hx_lowering.proofs.Calling.{CallsFollow}
 use Rattle.hx_lowering.proofs.Scene.{Scene, Fair, Stands, Holds, Came, EndsBy, Ends, held, fixed_or, turns_follow}
 use Rattle.hx_lowering.proofs.Assigns.{Free, Loose}
 use Rattle.hx_lowering.proofs.Values.{value_at, private_value, or_left, or_right}
@@ -193,17 +194,16 @@ module _ (p : Program) (code : CodeView) (words : code.globals ≡ words_in (lay
   pub region_opens : (s : Scene) (mk : Bool) (rest : List CallView) (c : Context) (low : ℕ) (scopes : Scopes) → Tidy low scopes → low ≤ s.privates → (here : Surroundings) → Around p scopes here
       → (init : List Simple) (test : Option tree.Expr) (step : Option tree.Assignment) (rb : resolved.Stmt) (body : Environment → Effect)
       → IfThere AcceptsExpr test here → IfThere AcceptsAssignment step here
-      → IsTrue (serves_test (clauses_of p code words scopes init test step).test) → IsTrue (serves_step (clauses_of p code words scopes init test step).step)
       → Flat rb → ((k : ℕ) → k < low → turns_declare k rb ≡ false)
       → (d : Draft) → HasDraft code (whole (region_taken s.privates (clauses_of p code words scopes init test step) rb) (clauses_of p code words scopes init test step) rb s.version d)
-      → Fair p code (outside_scene s rest) → c.is_active ≡ true
+      → Fair p code (outside_scene s rest) → c.is_active ≡ true → ((K : Ground) → depth_of K ≡ depth_of (Outside rest) → CallsFollow p code K (c.calls (is_active K)) c.turns)
       → ((o : Opener) → o.region ≡ length d.regions → Fair p code (iteration_scene s mk low o (clauses_of p code words scopes init test step) rb (targets (clauses_of p code words scopes init test step) (stmt_size rb) (length (entered (clauses_of p code words scopes init test step) (stmt_size rb) s.version d).lines)) c) → (ps cells : List ℤ) → Holds (iteration_scene s mk low o (clauses_of p code words scopes init test step) rb (targets (clauses_of p code words scopes init test step) (stmt_size rb) (length (entered (clauses_of p code words scopes init test step) (stmt_size rb) s.version d).lines)) c) ps cells → (w : World) (m : Machine) → At p code (Inside o []) (length (tested p code words (clauses_of p code words scopes init test step) ((length (entered (clauses_of p code words scopes init test step) (stmt_size rb) s.version d).lines) + turn_size (clauses_of p code words scopes init test step) (stmt_size rb) + 1) (inside o.region (region_taken s.privates (clauses_of p code words scopes init test step) rb) s.version) (entered (clauses_of p code words scopes init test step) (stmt_size rb) s.version d)).lines) ps [] cells w m
         → HasDraft code (stmt_draft rb (inside o.region (region_taken s.privates (clauses_of p code words scopes init test step) rb) s.version) (targets (clauses_of p code words scopes init test step) (stmt_size rb) (length (entered (clauses_of p code words scopes init test step) (stmt_size rb) s.version d).lines)) (tested p code words (clauses_of p code words scopes init test step) ((length (entered (clauses_of p code words scopes init test step) (stmt_size rb) s.version d).lines) + turn_size (clauses_of p code words scopes init test step) (stmt_size rb) + 1) (inside o.region (region_taken s.privates (clauses_of p code words scopes init test step) rb) s.version) (entered (clauses_of p code words scopes init test step) (stmt_size rb) s.version d)))
         → Follows code c.turns m (body (env_of scopes (held (iteration_scene s mk low o (clauses_of p code words scopes init test step) rb (targets (clauses_of p code words scopes init test step) (stmt_size rb) (length (entered (clauses_of p code words scopes init test step) (stmt_size rb) s.version d).lines)) c) ps cells)) w) (Ends p code (iteration_scene s mk low o (clauses_of p code words scopes init test step) rb (targets (clauses_of p code words scopes init test step) (stmt_size rb) (length (entered (clauses_of p code words scopes init test step) (stmt_size rb) s.version d).lines)) c) scopes (length (stmt_draft rb (inside o.region (region_taken s.privates (clauses_of p code words scopes init test step) rb) s.version) (targets (clauses_of p code words scopes init test step) (stmt_size rb) (length (entered (clauses_of p code words scopes init test step) (stmt_size rb) s.version d).lines)) (tested p code words (clauses_of p code words scopes init test step) ((length (entered (clauses_of p code words scopes init test step) (stmt_size rb) s.version d).lines) + turn_size (clauses_of p code words scopes init test step) (stmt_size rb) + 1) (inside o.region (region_taken s.privates (clauses_of p code words scopes init test step) rb) s.version) (entered (clauses_of p code words scopes init test step) (stmt_size rb) s.version d))).lines)))
       → (ps cells : List ℤ) → Holds (outside_scene s rest) ps cells → (w : World) (m : Machine) → At p code (Outside rest) (length d.lines) ps [] cells w m
       → Follows code c.turns m (loop c.turns true (value_or (pos 1) test (call_in c)) body (step_of step (call_in c)) (env_of scopes (held (outside_scene s rest) ps cells)) w)
         (Ends p code (outside_scene s rest) scopes (length (whole (region_taken s.privates (clauses_of p code words scopes init test step) rb) (clauses_of p code words scopes init test step) rb s.version d).lines))
-  region_opens s mk rest c low scopes tidy fits here around init test step rb body ok_test ok_step served_test served_step flat declares d has so_fair active hb ps cells holds w m at =
+  region_opens s mk rest c low scopes tidy fits here around init test step rb body ok_test ok_step flat declares d has so_fair active calls hb ps cells holds w m at =
       let cs = clauses_of p code words scopes init test step in
       let r = region_taken s.privates cs rb in
       let v = s.version in
@@ -254,7 +254,7 @@ module _ (p : Program) (code : CodeView) (words : code.globals ≡ words_in (lay
       let few = so_fair.few in
       let fair : Fair p code si = record {
         globals = so_fair.globals; carries = λ k cell e. refl; active = active; marked = λ e. refl; loose = λ e k. absurd cc; thawed = λ e. absurd cc;
-        apart = λ j k cell e f. cells_apart r.carried j k 0 cell e f; small = λ k cell e. small_cell s.privates low cs rb few fits declares k cell e; still = λ vs e k. absurd cc; few = few;
+        apart = λ j k cell e f. cells_apart r.carried j k 0 cell e f; small = λ k cell e. small_cell s.privates low cs rb few fits declares k cell e; still = λ vs e k. absurd cc; few = few; calls = λ K e. calls K (e ∙ omega arith);
       } in
       let ps0 = copied_words r.copied ps blank in
       let G = words_in (layout_of p) in
@@ -290,9 +290,9 @@ module _ (p : Program) (code : CodeView) (words : code.globals ≡ words_in (lay
       ∙ ap (λ (g : RegionView). at_inside o [] (begun g.start (copied_words g.copied ps blank)) (record { store = into_cells code.globals g.carried ps mem.store; text = []; turns = 0; regions = 0; iteration = 0 })) region_is)
       (subst (λ env. Follows code c.turns m0 (meant env w) Done) env0
       (turns_follow p code si scopes start (length t1.lines) (length t3.lines) true (value_or (pos 1) test (call_in c)) body (step_of step (call_in c)) Done
-      (λ n le ps' cells' holds' w' m' at' f g kf kg. test_here p code words si fair low scopes tidy fits here around (call_in c) test ok_test served_test free_test n exit ps' cells' ent.lines has1.lines w' m' at' f g Done kf kg)
+      (λ n le ps' cells' holds' w' m' at' f g kf kg. test_here p code words si fair low scopes tidy fits here around test ok_test free_test n exit le ps' cells' ent.lines has1.lines w' m' at' f g Done kf kg)
       (λ ps' cells' holds' w' m' at'. subst (λ q. Follows code c.turns m' (body (env_of scopes (held si ps' cells')) w') (Ends p code si scopes q)) at_step (hb o refl fair ps' cells' holds' w' m' at' has2))
-      (λ env' w' m' stands. step_here p code words si fair low scopes tidy fits here around (call_in c) step ok_step served_step free_step loose_step c.turns t2.lines has3.lines env' w' m'
+      (λ env' w' m' stands. step_here p code words si fair low scopes tidy fits here around step ok_step free_step loose_step t2.lines has3.lines env' w' m'
         (subst (λ q. Stands p code si scopes q env' w' m') (sym at_step) stands))
       (λ n env' w' m' next stands k.
         let at' = stands.at in

@@ -17,6 +17,8 @@ use Rattle.hx_lowering.proofs.Follow.{Follows, Reaches, follows_then, follows_fe
 use Rattle.hx_lowering.proofs.Setting.{Memory, Ground, is_active, Back}
 use Rattle.hx_lowering.proofs.At.{layout_of, world_at, At, not_over}
 use Rattle.hx_lowering.proofs.Names.{env_of}
+use Rattle.hx_lowering.proofs.Deeper.{depth_of}
+use Rattle.hx_lowering.proofs.Calling.{CallsFollow}
 use Rattle.hx_lowering.proofs.Values.{value_at}
 
 -- where a statement stands: the calls around it, the version of its words, the values of private words that no word reads or
@@ -60,6 +62,7 @@ module _ (p : Program) (code : CodeView) where
     pub small : (k cell : ℕ) → cell_of s.version.carried k ≡ Some cell → cell < CELL_LIMIT
     pub still : (cs : List ℤ) → s.frozen ≡ Some cs → (k : ℕ) → cell_of s.version.carried k ≡ None
     pub few : s.privates ≤ PRIVATE_LIMIT
+    pub calls : (K : Ground) → depth_of K ≡ depth_of s.ground → CallsFollow p code K (s.context.calls (is_active K)) s.context.turns
 
   -- the machine stands at a place, with the locals of an environment
   pub record Stands (s : Scene) (scopes : Scopes) (place : ℕ) (env : Environment) (w : World) (m : Machine) : Type 0 where

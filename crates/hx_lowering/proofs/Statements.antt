@@ -13,39 +13,39 @@ use Rattle.hx_tree.specs.Numbers.{is_zero}
 use Rattle.hx_tree.specs.Tree as tree
 use Rattle.hx_tree.specs.Tree.{Program, Name}
 use Rattle.hx_tree.specs.World.{Map, declare, World, Answer, Gives, Faults, Unfinished, Run, and_then, ◌>>=◌, gives, Environment, enter_scope, leave_scope, print_bytes}
-use Rattle.hx_tree.specs.Value.{Calling, value}
+use Rattle.hx_tree.specs.Value.{Calling, value, values}
 use Rattle.hx_tree.specs.Effect.{Exit, GoesOn, Breaks, Continues, Returns, Effect, Context, goes_on, go_on, inside as inside_context, is_counted, loop, step_of, call_in, value_or, declare_all, begin, effect, effects, part_effect, assign}
-use Rattle.hx_tree.specs.Accepted.{Surroundings, AcceptsStmt, AcceptsParts, AcceptsExpr, AcceptsReturn, AcceptsInit, AcceptsLocals, after_init, with_name, with_local, with_locals, IfThere, in_scope, inside_loop, stmt_locals, part_locals, parts_locals, init_locals}
+use Rattle.hx_tree.specs.Accepted.{Surroundings, AcceptsStmt, AcceptsParts, AcceptsExpr, AcceptsReturn, AcceptsInit, AcceptsLocals, after_init, with_name, with_local, with_locals, IfThere, in_scope, inside_loop, stmt_locals, part_locals, parts_locals, init_locals, FunctionKind, count as tree_count}
 use Rattle.hx_check.specs.declared.symbol.Symbol.{Symbol}
 use Rattle.hx_check.specs.Resolved as resolved
 use Rattle.hx_check.specs.Symbols.{Scopes, symbols_of, with_word, with_words, words_after_init}
 use Rattle.hx_check.specs.Carried.{expr_reads, stmt_reads, stmts_read, clauses_read, any_of, if_any, assignment_reads, simple_reads, assigns, simple_assigns, simple_declares, stmt_assigns, stmts_assign, stmt_declares, stmts_declare, turns_read, turns_assign}
 use Rattle.hx_check.specs.Resolve as resolve
-use Rattle.hx_check.specs.Resolve.{resolve_expr, resolve_assignment, resolve_stmt, resolve_parts, expr_or_zero}
-use Rattle.hx_code.specs.declared.word.Word.TheVariants.{Jump, JumpFalse, Print, Emit, Ret, Const}
+use Rattle.hx_check.specs.Resolve.{resolve_expr, resolve_exprs, function_at, resolve_assignment, resolve_stmt, resolve_parts, expr_or_zero}
+use Rattle.hx_code.specs.declared.word.Word.TheVariants.{Jump, JumpFalse, Print, Emit, Ret, Const, Call, Drop}
 use Rattle.hx_code.specs.declared.word.Output.TheVariants as output
 use Rattle.hx_code.specs.declared.word.Ask.TheVariants as ask
 use Rattle.hx_code.specs.Code.{CodeView}
 use Rattle.hx_code.specs.Call.{CallView, Asks, wants_of, low_byte}
 use Rattle.hx_code.specs.Machine.{Machine, machine_step}
 use Rattle.hx_lowering.specs.declared.line.Line.{Line}
-use Rattle.hx_lowering.specs.Lines.{Version, put, set_private, expr_lines, assignment_lines, simples_lines}
+use Rattle.hx_lowering.specs.Lines.{Version, put, set_private, count, expr_lines, exprs_lines, assignment_lines, simples_lines}
 use Rattle.hx_lowering.specs.Size.{expr_size, stmt_size}
 use Rattle.hx_lowering.specs.Draft.{Draft, Targets, with_lines, put_word, inside, loop_draft, stmt_draft, stmts_draft}
-use Rattle.hx_lowering.specs.Serves.{serves_expr, serves_stmt, serves_stmts, serves_clauses, serves_simples, serves_test, serves_step, serves_assignment}
 use Rattle.hx_lowering.proofs.Globals.{words_in}
 use Rattle.hx_lowering.proofs.Follow.{Follows, follows_then, at_once, steps_to}
 use Rattle.hx_lowering.proofs.Setting.{Ground, Inside, is_active, Back, returns_back}
 use Rattle.hx_lowering.proofs.Stand.{Has, has_before, has_expr, word_stands, length-put, length-expr}
 use Rattle.hx_lowering.proofs.At.{layout_of, call_at, At, at_place, goes_to, prints_to}
 use Rattle.hx_lowering.proofs.Names.{env_of, names_of, Around}
-use Rattle.hx_lowering.proofs.Values.{Leaves, value_at, word_goes, jump_follows, or_left, or_right, and_left, and_right}
+use Rattle.hx_lowering.proofs.Values.{Leaves, value_at, word_goes, jump_follows, or_left, or_right}
 use Rattle.hx_lowering.proofs.Scene.{Scene, Fair, Stands, Holds, Came, EndsBy, Ends, held, fixed_or}
 use Rattle.hx_lowering.proofs.Locals.{Tidy, tidy_more, tidy_scope, tidy_word, declare_is}
 use Rattle.hx_lowering.proofs.Taken.{unfixed_read, unfixed_write, unkept_write, own_unfixed, own_unkept}
-use Rattle.hx_lowering.proofs.Declares.{reads_then, assigns_then, declares_then, serves_then, draft_then, declares_from}
+use Rattle.hx_lowering.proofs.Declares.{reads_then, assigns_then, declares_then, draft_then, declares_from}
 use Rattle.hx_lowering.proofs.Writes.{private_written}
-use Rattle.hx_lowering.proofs.Assigns.{Free, Loose, Behind, value_here, assign_follows}
+use Rattle.hx_lowering.proofs.Assigns.{Free, Loose, Behind, value_here, values_here, call_here, assign_follows}
+use Rattle.hx_lowering.proofs.Calling.{onto}
 use Rattle.hx_lowering.proofs.Drafts.{HasDraft, has_word, has_lines, has_stmt, has_stmts, has_simples, has_loop, length-stmt}
 use Rattle.hx_lowering.proofs.Loops.{clauses_of}
 use Rattle.hx_lowering.proofs.Marked.{loop_follows}
@@ -103,33 +103,33 @@ module _ (p : Program) (code : CodeView) (words : code.globals ≡ words_in (lay
   ends_at s scopes n place place' m a e h = subst (λ q. Follows code n m a (Ends p code s scopes q)) e h
 
   -- a value, and what is printed of it
-  prints : (s : Scene) → Fair p code s → (next : ℕ) (scopes : Scopes) → Tidy next scopes → next ≤ s.privates → (here : Surroundings) → Around p scopes here → (e : tree.Expr) → AcceptsExpr e here → IsTrue (serves_expr (resolve_expr e (symbols_of p) scopes))
+  prints : (s : Scene) → Fair p code s → (next : ℕ) (scopes : Scopes) → Tidy next scopes → next ≤ s.privates → (here : Surroundings) → Around p scopes here → (e : tree.Expr) → AcceptsExpr e here
       → Free s (λ k. expr_reads k (resolve_expr e (symbols_of p) scopes)) → (place : Pos)
       → (lines : List Line) → Has code (put s.version 1 (Print place) (expr_lines (resolve_expr e (symbols_of p) scopes) s.version 0 lines))
       → (ps cells : List ℤ) → Holds s ps cells → (w : World) (m : Machine) → At p code s.ground (length lines) ps [] cells w m
       → Follows code s.context.turns m (effect (tree.Print place e) s.context (env_of scopes (held s ps cells)) w) (Ends p code s scopes (length (put s.version 1 (Print place) (expr_lines (resolve_expr e (symbols_of p) scopes) s.version 0 lines))))
-  prints s fair next scopes tidy fits here around e ok served free place lines has ps cells holds w m at =
+  prints s fair next scopes tidy fits here around e ok free place lines has ps cells holds w m at =
       let es = expr_lines (resolve_expr e (symbols_of p) scopes) s.version 0 lines in
       let done = put s.version 1 (Print place) es in
       let env = env_of scopes (held s ps cells) in
       let n = s.context.turns in
       follows_then code n m (value e (call_in s.context) env w) (λ v. print_bytes place (signed_decimal v ++ 10 ∷ []) >>= (λ done. goes_on env)) (Leaves p code s.ground s.version words fair.globals fair.carries es ps [] cells) (Ends p code s scopes (length done))
-      (value_here p code words s fair next scopes tidy fits here around (call_in s.context) e ok served free n 0 ps [] cells lines (has_before code s.version 1 (Print place) es has) w m at)
+      (value_here p code words s fair next scopes tidy fits here around e ok free 0 ps [] cells lines (has_before code s.version 1 (Print place) es has) w m at)
       (λ v w' m' at'. prints_to p code s.ground n (length es) (length es + 1) ps (v ∷ []) [] cells w' m' (Print place) (output.Number v) place (λ done. goes_on env) (Ends p code s scopes (length done)) words at' (word_stands code s.version 1 (Print place) es has) refl
       (λ w'' m'' at''. goes_on_here s scopes n (length done) ps cells holds w'' m'' (at_place p code s.ground (length es + 1) (length done) ps [] cells w'' m'' (sym (length-put s.version 1 (Print place) es)) at'')))
 
-  emits : (s : Scene) → Fair p code s → (next : ℕ) (scopes : Scopes) → Tidy next scopes → next ≤ s.privates → (here : Surroundings) → Around p scopes here → (e : tree.Expr) → AcceptsExpr e here → IsTrue (serves_expr (resolve_expr e (symbols_of p) scopes))
+  emits : (s : Scene) → Fair p code s → (next : ℕ) (scopes : Scopes) → Tidy next scopes → next ≤ s.privates → (here : Surroundings) → Around p scopes here → (e : tree.Expr) → AcceptsExpr e here
       → Free s (λ k. expr_reads k (resolve_expr e (symbols_of p) scopes)) → (place : Pos)
       → (lines : List Line) → Has code (put s.version 1 (Emit place) (expr_lines (resolve_expr e (symbols_of p) scopes) s.version 0 lines))
       → (ps cells : List ℤ) → Holds s ps cells → (w : World) (m : Machine) → At p code s.ground (length lines) ps [] cells w m
       → Follows code s.context.turns m (effect (tree.Emit place e) s.context (env_of scopes (held s ps cells)) w) (Ends p code s scopes (length (put s.version 1 (Emit place) (expr_lines (resolve_expr e (symbols_of p) scopes) s.version 0 lines))))
-  emits s fair next scopes tidy fits here around e ok served free place lines has ps cells holds w m at =
+  emits s fair next scopes tidy fits here around e ok free place lines has ps cells holds w m at =
       let es = expr_lines (resolve_expr e (symbols_of p) scopes) s.version 0 lines in
       let done = put s.version 1 (Emit place) es in
       let env = env_of scopes (held s ps cells) in
       let n = s.context.turns in
       follows_then code n m (value e (call_in s.context) env w) (λ v. print_bytes place (cast_unsigned w32 v % 256 ∷ []) >>= (λ done. goes_on env)) (Leaves p code s.ground s.version words fair.globals fair.carries es ps [] cells) (Ends p code s scopes (length done))
-      (value_here p code words s fair next scopes tidy fits here around (call_in s.context) e ok served free n 0 ps [] cells lines (has_before code s.version 1 (Emit place) es has) w m at)
+      (value_here p code words s fair next scopes tidy fits here around e ok free 0 ps [] cells lines (has_before code s.version 1 (Emit place) es has) w m at)
       (λ v w' m' at'. prints_to p code s.ground n (length es) (length es + 1) ps (v ∷ []) [] cells w' m' (Emit place) (output.Byte (low_byte v)) place (λ done. goes_on env) (Ends p code s scopes (length done)) words at' (word_stands code s.version 1 (Emit place) es has) refl
       (λ w'' m'' at''. goes_on_here s scopes n (length done) ps cells holds w'' m'' (at_place p code s.ground (length es + 1) (length done) ps [] cells w'' m'' (sym (length-put s.version 1 (Emit place) es)) at'')))
 
@@ -143,21 +143,21 @@ module _ (p : Program) (code : CodeView) (words : code.globals ≡ words_in (lay
       record { steps = 1; enough = omega arith;
         holds = record { memory = at.memory; back = subst (λ x. Back code s.ground v at.memory (machine_step code x)) (sym at.is) back; world = at.world; room = at.room; cells_are = λ cs e a. at.cells_are a ∙ holds.freezes cs e } }
 
-  return_value : (s : Scene) → Fair p code s → (next : ℕ) (scopes : Scopes) → Tidy next scopes → next ≤ s.privates → (here : Surroundings) → Around p scopes here → (o : Option tree.Expr) → AcceptsReturn here.returns o here → IsTrue (serves_expr (expr_or_zero o (symbols_of p) scopes))
+  return_value : (s : Scene) → Fair p code s → (next : ℕ) (scopes : Scopes) → Tidy next scopes → next ≤ s.privates → (here : Surroundings) → Around p scopes here → (o : Option tree.Expr) → AcceptsReturn here.returns o here
       → Free s (λ k. expr_reads k (expr_or_zero o (symbols_of p) scopes))
       → (lines : List Line) → Has code (put s.version 1 Ret (expr_lines (expr_or_zero o (symbols_of p) scopes) s.version 0 lines))
       → (ps cells : List ℤ) → Holds s ps cells → (w : World) (m : Machine) (place : ℕ) → At p code s.ground (length lines) ps [] cells w m
       → Follows code s.context.turns m ((value_or (pos 0) o (call_in s.context) (env_of scopes (held s ps cells)) >>= (λ v. gives (Returns v, env_of scopes (held s ps cells)))) w) (Ends p code s scopes place)
-  return_value s fair next scopes tidy fits here around None ok served free lines has ps cells holds w m place at =
+  return_value s fair next scopes tidy fits here around None ok free lines has ps cells holds w m place at =
       let es = put s.version 0 (Const (pos 0)) lines in
       let env = env_of scopes (held s ps cells) in
       word_goes p code s.ground s.version words fair.globals fair.carries s.context.turns 0 ps ps [] (pos 0 ∷ []) cells w m (Const (pos 0)) lines (Gives (Returns (pos 0), env) w) (Ends p code s scopes place) (has_before code s.version 1 Ret es has) at refl
       (λ m' at'. returns_it s scopes s.context.turns env (pos 0) 1 es has ps cells holds w m' place at')
-  return_value s fair next scopes tidy fits here around (Some e) ok served free lines has ps cells holds w m place at =
+  return_value s fair next scopes tidy fits here around (Some e) ok free lines has ps cells holds w m place at =
       let es = expr_lines (resolve_expr e (symbols_of p) scopes) s.version 0 lines in
       let env = env_of scopes (held s ps cells) in
       follows_then code s.context.turns m (value e (call_in s.context) env w) (λ v. gives (Returns v, env)) (Leaves p code s.ground s.version words fair.globals fair.carries es ps [] cells) (Ends p code s scopes place)
-      (value_here p code words s fair next scopes tidy fits here around (call_in s.context) e (returned_ok here.returns e here ok) served free s.context.turns 0 ps [] cells lines (has_before code s.version 1 Ret es has) w m at)
+      (value_here p code words s fair next scopes tidy fits here around e (returned_ok here.returns e here ok) free 0 ps [] cells lines (has_before code s.version 1 Ret es has) w m at)
       (λ v w' m' at'. returns_it s scopes s.context.turns env v 1 es has ps cells holds w' m' place at')
 
   -- a jump out of a turn
@@ -218,26 +218,25 @@ module _ (p : Program) (code : CodeView) (words : code.globals ≡ words_in (lay
 
   -- the first value of a local
   first_value : (s : Scene) (fair : Fair p code s) (next : ℕ) (scopes : Scopes) → Tidy next scopes → next ≤ s.privates → (here : Surroundings) → Around p scopes here → (o : Option tree.Expr) → IfThere AcceptsExpr o here
-      → IsTrue (serves_expr (expr_or_zero o (symbols_of p) scopes)) → Free s (λ k. expr_reads k (expr_or_zero o (symbols_of p) scopes))
+      → Free s (λ k. expr_reads k (expr_or_zero o (symbols_of p) scopes))
       → (lines : List Line) → Has code (expr_lines (expr_or_zero o (symbols_of p) scopes) s.version 0 lines)
       → (ps cells : List ℤ) (w : World) (m : Machine) → At p code s.ground (length lines) ps [] cells w m
       → Follows code s.context.turns m (value_or (pos 0) o (call_in s.context) (env_of scopes (held s ps cells)) w)
         (Leaves p code s.ground s.version words fair.globals fair.carries (expr_lines (expr_or_zero o (symbols_of p) scopes) s.version 0 lines) ps [] cells)
-  first_value s fair next scopes tidy fits here around None ok served free lines has ps cells w m at =
-      value_here p code words s fair next scopes tidy fits here around (call_in s.context) (tree.Number 0) (omega arith) served free s.context.turns 0 ps [] cells lines has w m at
-  first_value s fair next scopes tidy fits here around (Some e) ok served free lines has ps cells w m at =
-      value_here p code words s fair next scopes tidy fits here around (call_in s.context) e ok served free s.context.turns 0 ps [] cells lines has w m at
+  first_value s fair next scopes tidy fits here around None ok free lines has ps cells w m at =
+      value_here p code words s fair next scopes tidy fits here around (tree.Number 0) (omega arith) free 0 ps [] cells lines has w m at
+  first_value s fair next scopes tidy fits here around (Some e) ok free lines has ps cells w m at =
+      value_here p code words s fair next scopes tidy fits here around e ok free 0 ps [] cells lines has w m at
 
   locals_follow : (ds : List tree.LocalDecl) (s : Scene) (fair : Fair p code s) → (scopes outer : Scopes) → Top scopes outer → (k : ℕ) → Tidy k scopes → k + length ds ≤ s.privates → (here : Surroundings) → Around p scopes here → AcceptsLocals ds here
-      → IsTrue (serves_simples (resolve.resolve_locals ds (symbols_of p) scopes k))
       → Free s (λ j. any_of (simple_reads j) (resolve.resolve_locals ds (symbols_of p) scopes k)) → Loose s (λ j. any_of (simple_declares j) (resolve.resolve_locals ds (symbols_of p) scopes k))
       → (lines : List Line) → Has code (simples_lines (resolve.resolve_locals ds (symbols_of p) scopes k) s.version lines)
       → (ps cells : List ℤ) → Holds s ps cells → (w : World) (m : Machine) → At p code s.ground (length lines) ps [] cells w m
       → Follows code s.context.turns m (declare_all ds (call_in s.context) (env_of scopes (held s ps cells)) w)
         (λ env' w' m'. Stands p code s (with_words ds scopes k) (length (simples_lines (resolve.resolve_locals ds (symbols_of p) scopes k) s.version lines)) env' w' m')
-  locals_follow [] s fair scopes outer top k tidy fits here around ok served free loose lines has ps cells holds w m at =
+  locals_follow [] s fair scopes outer top k tidy fits here around ok free loose lines has ps cells holds w m at =
       at_once code m (λ m'. Stands p code s scopes (length lines) (env_of scopes (held s ps cells)) w m') (record { ps = ps; cells = cells; holds = holds; at = at; env_is = refl })
-  locals_follow (d ∷ ds) s fair scopes outer top k tidy fits here around ok served free loose lines has ps cells holds w m at =
+  locals_follow (d ∷ ds) s fair scopes outer top k tidy fits here around ok free loose lines has ps cells holds w m at =
       let n = s.context.turns in
       let e = expr_or_zero d.init (symbols_of p) scopes in
       let v = s.version in
@@ -253,19 +252,18 @@ module _ (p : Program) (code : CodeView) (words : code.globals ≡ words_in (lay
       let loose_k = loose k (or_left (nat_eq k k) (any_of (simple_declares k) rest) ((Decides-eqb k k).1 refl)) in
       let Done = λ (env' : Environment) (w' : World) (m' : Machine). Stands p code s (with_words ds scopes' (k + 1)) (length done) env' w' m' in
       follows_then code n m (value_or (pos 0) d.init (call_in s.context) env w) (λ z. declare_all ds (call_in s.context) (declare env d.name.text z)) (Leaves p code s.ground v words fair.globals fair.carries es ps [] cells) Done
-      (first_value s fair k scopes tidy (omega arith) here around d.init ok.0 (and_left (serves_expr e) (serves_simples rest) served) (free_left s (λ j. expr_reads j e) (λ j. any_of (simple_reads j) rest) free) lines (has_before code v 1 (set_private v k) es has_line) ps cells w m at)
+      (first_value s fair k scopes tidy (omega arith) here around d.init ok.0 (free_left s (λ j. expr_reads j e) (λ j. any_of (simple_reads j) rest) free) lines (has_before code v 1 (set_private v k) es has_line) ps cells w m at)
       (λ z w' m' at'. private_written p code words s fair n 1 k z ps [] cells holds loose_k.1 lt w' m' es (declare_all ds (call_in s.context) (declare env d.name.text z) w') Done has_line at'
       (λ ps' cells' m'' changed at''.
         let env_is : declare env d.name.text z ≡ env_of scopes' (held s ps' cells') =
         declared scopes outer top d.name.text k (held s ps cells) (held s ps' cells') z tidy (ap (λ o. fixed_or o (value_at v ps' cells' k)) loose_k.0 ∙ changed.here) (λ j ne. ap (fixed_or (s.fixed j)) (changed.others j ne)) in
         subst (λ x. Follows code n m'' (declare_all ds (call_in s.context) x w') Done) (sym env_is)
         (locals_follow ds s fair scopes' outer (top_word scopes outer top d.name.text k) (k + 1) (word_tidy scopes outer top d.name.text k tidy) (omega arith) (with_local d here) (word_around scopes outer top here d k around) ok.2
-        (and_right (serves_expr e) (serves_simples rest) served) (free_right s (λ j. expr_reads j e) (λ j. any_of (simple_reads j) rest) free) (loose_right s (λ j. nat_eq k j) (λ j. any_of (simple_declares j) rest) loose)
+        (free_right s (λ j. expr_reads j e) (λ j. any_of (simple_reads j) rest) free) (loose_right s (λ j. nat_eq k j) (λ j. any_of (simple_declares j) rest) loose)
         line has ps' cells' changed.holds w' m'' at'')))
 
   -- what a `for` begins with
   begin_follows : (i : tree.Init) (s : Scene) → Fair p code s → (scopes : Scopes) (here : Surroundings) → Around p scopes here → (k : ℕ) → Tidy k scopes → k + init_locals i ≤ s.privates → AcceptsInit i (in_scope here)
-      → IsTrue (serves_simples (resolve.resolve_init i (symbols_of p) ([] ∷ scopes) k))
       → Free s (λ j. any_of (simple_reads j) (resolve.resolve_init i (symbols_of p) ([] ∷ scopes) k)) → Loose s (λ j. any_of (simple_assigns j) (resolve.resolve_init i (symbols_of p) ([] ∷ scopes) k))
       → Loose s (λ j. any_of (simple_declares j) (resolve.resolve_init i (symbols_of p) ([] ∷ scopes) k))
       → (lines : List Line) → Has code (simples_lines (resolve.resolve_init i (symbols_of p) ([] ∷ scopes) k) s.version lines)
@@ -275,17 +273,17 @@ module _ (p : Program) (code : CodeView) (words : code.globals ≡ words_in (lay
         × Tidy (k + init_locals i) (words_after_init i ([] ∷ scopes) k)
         × Follows code s.context.turns m (begin i (call_in s.context) (env_of ([] ∷ scopes) (held s ps cells)) w)
           (λ env' w' m'. Stands p code s (words_after_init i ([] ∷ scopes) k) (length (simples_lines (resolve.resolve_init i (symbols_of p) ([] ∷ scopes) k) s.version lines)) env' w' m')
-  begin_follows tree.NoInit s fair scopes here around k tidy fits ok served free loose fresh lines has ps cells holds w m at =
+  begin_follows tree.NoInit s fair scopes here around k tidy fits ok free loose fresh lines has ps cells holds w m at =
       (scope_in scopes here around, ([], refl), tidy_more k (k + 0) ([] ∷ scopes) (omega arith) (tidy_scope k scopes tidy),
       at_once code m (λ m'. Stands p code s ([] ∷ scopes) (length lines) (env_of ([] ∷ scopes) (held s ps cells)) w m') (record { ps = ps; cells = cells; holds = holds; at = at; env_is = refl }))
-  begin_follows (tree.InitLocals ds) s fair scopes here around k tidy fits ok served free loose fresh lines has ps cells holds w m at =
+  begin_follows (tree.InitLocals ds) s fair scopes here around k tidy fits ok free loose fresh lines has ps cells holds w m at =
       (words_around ds ([] ∷ scopes) scopes ([], refl) (in_scope here) k (scope_in scopes here around), top_words ds ([] ∷ scopes) scopes ([], refl) k, words_tidy ds ([] ∷ scopes) scopes ([], refl) k (tidy_scope k scopes tidy),
-      locals_follow ds s fair ([] ∷ scopes) scopes ([], refl) k (tidy_scope k scopes tidy) fits (in_scope here) (scope_in scopes here around) ok served free fresh lines has ps cells holds w m at)
-  begin_follows (tree.InitAssign a) s fair scopes here around k tidy fits ok served free loose fresh lines has ps cells holds w m at =
+      locals_follow ds s fair ([] ∷ scopes) scopes ([], refl) k (tidy_scope k scopes tidy) fits (in_scope here) (scope_in scopes here around) ok free fresh lines has ps cells holds w m at)
+  begin_follows (tree.InitAssign a) s fair scopes here around k tidy fits ok free loose fresh lines has ps cells holds w m at =
       let ra = resolve_assignment a (symbols_of p) ([] ∷ scopes) in
       (scope_in scopes here around, ([], refl), tidy_more k (k + 0) ([] ∷ scopes) (omega arith) (tidy_scope k scopes tidy),
-      assign_follows p code words s fair k ([] ∷ scopes) (tidy_scope k scopes tidy) (omega arith) (in_scope here) (scope_in scopes here around) (call_in s.context) a ok (and_left (serves_assignment ra) true served)
-      (free_left s (λ j. assignment_reads j ra) (λ j. false) free) (loose_left s (λ j. assigns j ra) (λ j. false) loose) s.context.turns ps cells holds lines has w m at)
+      assign_follows p code words s fair k ([] ∷ scopes) (tidy_scope k scopes tidy) (omega arith) (in_scope here) (scope_in scopes here around) a ok
+      (free_left s (λ j. assignment_reads j ra) (λ j. false) free) (loose_left s (λ j. assigns j ra) (λ j. false) loose) ps cells holds lines has w m at)
 
   -- past the other side of an `if`
   past_else : (s : Scene) (scopes : Scopes) (n place to behind : ℕ) → to ≡ behind → slice_get code.words place ≡ Some (Jump to) → (m : Machine) (a : Answer (Exit × Environment))
@@ -326,25 +324,42 @@ module _ (p : Program) (code : CodeView) (words : code.globals ≡ words_in (lay
 
   mutual
     pub stmt_follows : (st : tree.Stmt) (s : Scene) → Fair p code s → (scopes : Scopes) (here : Surroundings) → Around p scopes here → (IsTrue here.in_loop → s.in_loop ≡ true) → (k : ℕ) → Tidy k scopes → k + stmt_locals st ≤ s.privates → AcceptsStmt st here
-        → IsTrue (serves_stmt (resolve_stmt st (around_of p s) scopes k)) → Free s (λ j. stmt_reads j (resolve_stmt st (around_of p s) scopes k))
+        → Free s (λ j. stmt_reads j (resolve_stmt st (around_of p s) scopes k))
         → Loose s (λ j. stmt_assigns j (resolve_stmt st (around_of p s) scopes k)) → Loose s (λ j. stmt_declares j (resolve_stmt st (around_of p s) scopes k))
         → (d : Draft) → HasDraft code (stmt_draft (resolve_stmt st (around_of p s) scopes k) s.version s.to d)
         → (ps cells : List ℤ) → Holds s ps cells → (w : World) (m : Machine) → At p code s.ground (length d.lines) ps [] cells w m
         → Follows code s.context.turns m (effect st s.context (env_of scopes (held s ps cells)) w) (Ends p code s scopes (length (stmt_draft (resolve_stmt st (around_of p s) scopes k) s.version s.to d).lines))
-    stmt_follows (tree.Block parts) s fair scopes here around loops k tidy fits ok served free loose fresh d has ps cells holds w m at =
+    stmt_follows (tree.Block parts) s fair scopes here around loops k tidy fits ok free loose fresh d has ps cells holds w m at =
         follows_then code s.context.turns m (effects parts s.context (enter_scope (env_of scopes (held s ps cells))) w) (λ out. gives (out.0, leave_scope out.1)) (PartsEnd s scopes _) (Ends p code s scopes _)
-        (parts_follow parts s fair ([] ∷ scopes) scopes ([], refl) (in_scope here) (scope_in scopes here around) loops k (tidy_scope k scopes tidy) fits ok served free loose fresh d has ps cells holds w m at)
+        (parts_follow parts s fair ([] ∷ scopes) scopes ([], refl) (in_scope here) (scope_in scopes here around) loops k (tidy_scope k scopes tidy) fits ok free loose fresh d has ps cells holds w m at)
         (λ out w' m' ends. at_once code m' (λ x. PartsEnd s scopes _ out w' x) ends)
-    stmt_follows tree.Empty s fair scopes here around loops k tidy fits ok served free loose fresh d has ps cells holds w m at = goes_on_here s scopes s.context.turns (length d.lines) ps cells holds w m at
-    stmt_follows (tree.Assign a) s fair scopes here around loops k tidy fits ok served free loose fresh d has ps cells holds w m at =
+    stmt_follows tree.Empty s fair scopes here around loops k tidy fits ok free loose fresh d has ps cells holds w m at = goes_on_here s scopes s.context.turns (length d.lines) ps cells holds w m at
+    stmt_follows (tree.Assign a) s fair scopes here around loops k tidy fits ok free loose fresh d has ps cells holds w m at =
         let done = assignment_lines (resolve_assignment a (symbols_of p) scopes) s.version d.lines in
         follows_then code s.context.turns m (assign a (call_in s.context) (env_of scopes (held s ps cells)) w) (λ env'. goes_on env') (λ env' w' m'. Stands p code s scopes (length done) env' w' m') (Ends p code s scopes (length done))
-        (assign_follows p code words s fair k scopes tidy (omega arith) here around (call_in s.context) a ok served free loose s.context.turns ps cells holds d.lines has.lines w m at)
+        (assign_follows p code words s fair k scopes tidy (omega arith) here around a ok free loose ps cells holds d.lines has.lines w m at)
         (λ env' w' m' stands. at_once code m' (λ x. Stands p code s scopes (length done) env' w' x) stands)
-    stmt_follows (tree.CallStatement f es) s fair scopes here around loops k tidy fits ok served free loose fresh d has ps cells holds w m at = absurd cc
-    stmt_follows (tree.Print place e) s fair scopes here around loops k tidy fits ok served free loose fresh d has ps cells holds w m at = prints s fair k scopes tidy (omega arith) here around e ok served free place d.lines has.lines ps cells holds w m at
-    stmt_follows (tree.Emit place e) s fair scopes here around loops k tidy fits ok served free loose fresh d has ps cells holds w m at = emits s fair k scopes tidy (omega arith) here around e ok served free place d.lines has.lines ps cells holds w m at
-    stmt_follows (tree.If test st) s fair scopes here around loops k tidy fits ok served free loose fresh d has ps cells holds w m at =
+    stmt_follows (tree.CallStatement f es) s fair scopes here around loops k tidy fits ok free loose fresh d has ps cells holds w m at =
+        let v = s.version in
+        let n = s.context.turns in
+        let rs = resolve_exprs es (symbols_of p) scopes in
+        let env = env_of scopes (held s ps cells) in
+        let a = exprs_lines rs v 0 d.lines in
+        let word = Call (function_at f (symbols_of p)) f.pos in
+        let b = put v (count rs) word a in
+        let done = put v 1 Drop b in
+        let has_b = has_before code v 1 Drop b has.lines in
+        let Done = Ends p code s scopes (length done) in
+        follows_then code n m (values es (call_in s.context) env w) (λ vs. call_in s.context f vs >>= (λ x. goes_on env))
+        (λ vs w' m'. (length vs ≡ tree_count es) × At p code s.ground (length a) ps (onto vs []) cells w' m') Done
+        (values_here p code words s fair k scopes tidy (omega arith) here around es ok.1 free 0 ps [] cells d.lines (has_before code v (count rs) word a has_b) w m at)
+        (λ vs w' m' up. follows_then code n m' (call_in s.context f vs w') (λ x. goes_on env) (λ x w'' m''. At p code s.ground (length b) ps (x ∷ []) cells w'' m'') Done
+        (call_here p code words s fair k scopes tidy (omega arith) here around f ok.0.0 vs (ok.0.1 ∙ ap (λ q. Some (FunctionKind ok.0.0 q)) (sym up.0)) (count rs) ps [] cells a has_b w' m' up.1)
+        (λ x w'' m'' at''. word_goes p code s.ground v words fair.globals fair.carries n 1 ps ps (x ∷ []) [] cells w'' m'' Drop b (goes_on env w'') Done has.lines at'' refl
+        (λ m3 at3. goes_on_here s scopes n (length done) ps cells holds w'' m3 at3)))
+    stmt_follows (tree.Print place e) s fair scopes here around loops k tidy fits ok free loose fresh d has ps cells holds w m at = prints s fair k scopes tidy (omega arith) here around e ok free place d.lines has.lines ps cells holds w m at
+    stmt_follows (tree.Emit place e) s fair scopes here around loops k tidy fits ok free loose fresh d has ps cells holds w m at = emits s fair k scopes tidy (omega arith) here around e ok free place d.lines has.lines ps cells holds w m at
+    stmt_follows (tree.If test st) s fair scopes here around loops k tidy fits ok free loose fresh d has ps cells holds w m at =
         let rt = resolve_expr test (symbols_of p) scopes in
         let rs = resolve_stmt st (around_of p s) scopes k in
         let v = s.version in
@@ -358,11 +373,11 @@ module _ (p : Program) (code : CodeView) (words : code.globals ≡ words_in (lay
         let at_end : behind ≡ length done.lines = omega (arith, length-stmt rs v s.to d1, length-put v 1 (JumpFalse behind) a, length-expr rt v 0 d.lines) in
         let Done = Ends p code s scopes (length done.lines) in
         follows_then code n m (value test (call_in s.context) env w) (λ x. if is_zero x then goes_on env else effect st s.context env) (Leaves p code s.ground v words fair.globals fair.carries a ps [] cells) Done
-        (value_here p code words s fair k scopes tidy (omega arith) here around (call_in s.context) test ok.0 (and_left (serves_expr rt) (serves_stmt rs) served) (free_left s (λ j. expr_reads j rt) (λ j. stmt_reads j rs) free) n 0 ps [] cells d.lines (has_before code v 1 (JumpFalse behind) a has1.lines) w m at)
+        (value_here p code words s fair k scopes tidy (omega arith) here around test ok.0 (free_left s (λ j. expr_reads j rt) (λ j. stmt_reads j rs) free) 0 ps [] cells d.lines (has_before code v 1 (JumpFalse behind) a has1.lines) w m at)
         (λ x w' m' at'. jump_follows p code s.ground v words fair.globals fair.carries n 1 behind x ps [] cells w' m' a (goes_on env) (effect st s.context env) Done has1.lines at'
         (λ m'' at''. goes_on_here s scopes n (length done.lines) ps cells holds w' m'' (at_place p code s.ground behind (length done.lines) ps [] cells w' m'' at_end at''))
-        (λ m'' at''. stmt_follows st s fair scopes here around loops k tidy fits ok.1 (and_right (serves_expr rt) (serves_stmt rs) served) (free_right s (λ j. expr_reads j rt) (λ j. stmt_reads j rs) free) loose fresh d1 has ps cells holds w' m'' at''))
-    stmt_follows (tree.IfElse test st other) s fair scopes here around loops k tidy fits ok served free loose fresh d has ps cells holds w m at =
+        (λ m'' at''. stmt_follows st s fair scopes here around loops k tidy fits ok.1 (free_right s (λ j. expr_reads j rt) (λ j. stmt_reads j rs) free) loose fresh d1 has ps cells holds w' m'' at''))
+    stmt_follows (tree.IfElse test st other) s fair scopes here around loops k tidy fits ok free loose fresh d has ps cells holds w m at =
         let rt = resolve_expr test (symbols_of p) scopes in
         let rs = resolve_stmt st (around_of p s) scopes k in
         let ro = resolve_stmt other (around_of p s) scopes (k + stmt_locals st) in
@@ -383,43 +398,40 @@ module _ (p : Program) (code : CodeView) (words : code.globals ≡ words_in (lay
         let at_end : behind ≡ length done.lines = omega (arith, length-stmt ro v s.to d3, at_other) in
         let Done = Ends p code s scopes (length done.lines) in
         let reads_rest : ℕ → Bool = λ j. stmt_reads j ro in
-        let served_rest = and_right (serves_expr rt) (serves_stmt rs && serves_stmt ro) served in
         let free_first = free_left s (λ j. expr_reads j rt || stmt_reads j rs) reads_rest free in
         follows_then code n m (value test (call_in s.context) env w) (λ x. if is_zero x then effect other s.context env else effect st s.context env) (Leaves p code s.ground v words fair.globals fair.carries a ps [] cells) Done
-        (value_here p code words s fair k scopes tidy (omega arith) here around (call_in s.context) test ok.0 (and_left (serves_expr rt) (serves_stmt rs && serves_stmt ro) served) (free_left s (λ j. expr_reads j rt) (λ j. stmt_reads j rs) free_first) n 0 ps [] cells d.lines (has_before code v 1 (JumpFalse other_at) a has1.lines) w m at)
+        (value_here p code words s fair k scopes tidy (omega arith) here around test ok.0 (free_left s (λ j. expr_reads j rt) (λ j. stmt_reads j rs) free_first) 0 ps [] cells d.lines (has_before code v 1 (JumpFalse other_at) a has1.lines) w m at)
         (λ x w' m' at'. jump_follows p code s.ground v words fair.globals fair.carries n 1 other_at x ps [] cells w' m' a (effect other s.context env) (effect st s.context env) Done has1.lines at'
-        (λ m'' at''. stmt_follows other s fair scopes here around loops (k + stmt_locals st) (tidy_more k (k + stmt_locals st) scopes (omega arith) tidy) (omega arith) ok.2 (and_right (serves_stmt rs) (serves_stmt ro) served_rest) (free_right s (λ j. expr_reads j rt || stmt_reads j rs) reads_rest free)
+        (λ m'' at''. stmt_follows other s fair scopes here around loops (k + stmt_locals st) (tidy_more k (k + stmt_locals st) scopes (omega arith) tidy) (omega arith) ok.2 (free_right s (λ j. expr_reads j rt || stmt_reads j rs) reads_rest free)
           (loose_right s (λ j. stmt_assigns j rs) (λ j. stmt_assigns j ro) loose) (loose_right s (λ j. stmt_declares j rs) (λ j. stmt_declares j ro) fresh) d3 has ps cells holds w' m''
           (at_place p code s.ground other_at (length d3.lines) ps [] cells w' m'' at_other at''))
         (λ m'' at''. past_else s scopes n (length d2.lines) behind (length done.lines) at_end (word_stands code v 0 (Jump behind) d2.lines has3.lines) m'' (effect st s.context env w')
-          (stmt_follows st s fair scopes here around loops k tidy (omega arith) ok.1 (and_left (serves_stmt rs) (serves_stmt ro) served_rest) (free_right s (λ j. expr_reads j rt) (λ j. stmt_reads j rs) free_first)
+          (stmt_follows st s fair scopes here around loops k tidy (omega arith) ok.1 (free_right s (λ j. expr_reads j rt) (λ j. stmt_reads j rs) free_first)
           (loose_left s (λ j. stmt_assigns j rs) (λ j. stmt_assigns j ro) loose) (loose_left s (λ j. stmt_declares j rs) (λ j. stmt_declares j ro) fresh) d1 has2 ps cells holds w' m'' at'')))
-    stmt_follows (tree.While marked test st) s fair scopes here around loops k tidy fits ok served free loose fresh d has ps cells holds w m at =
+    stmt_follows (tree.While marked test st) s fair scopes here around loops k tidy fits ok free loose fresh d has ps cells holds w m at =
         let rt = resolve_expr test (symbols_of p) scopes in
         let rs = resolve_stmt st (resolve.inside marked (around_of p s)) scopes k in
         let cs = clauses_of p code words scopes [] (Some test) None in
-        let served_st = and_right (serves_clauses cs) (serves_stmt rs) served in
-        let served_test = and_left (serves_expr rt) true (and_left (serves_clauses cs) (serves_stmt rs) served) in
         let free_clauses = free_left s (λ j. clauses_read j cs) (λ j. stmt_reads j rs) free in
         let fits' : k ≤ s.privates = omega arith in
         let declares : (j : ℕ) → j < k → stmt_declares j rs ≡ false = λ j lt. declares_from st (resolve.inside marked (around_of p s)) scopes k j lt in
         let reads_any : ℕ → Bool = λ j. turns_read j cs rs in
         let writes_any : ℕ → Bool = λ j. turns_assign j cs rs in
-        loop_follows p code words marked s.is_marked s k scopes tidy fits' here around [] (Some test) None rs (λ c env. effect st c env) ok.0 tt served_test refl
+        loop_follows p code words marked s.is_marked s k scopes tidy fits' here around [] (Some test) None rs (λ c env. effect st c env) ok.0 tt
         (free_left s (λ j. expr_reads j rt) (λ j. false) free_clauses) (λ j e. absurd cc) (λ j e. absurd cc) fair
         (λ e v to d'. subst (λ b. (stmt_draft (resolve_stmt st (record { symbols = symbols_of p; privates = s.privates; is_marked = b }) scopes k) v to d').regions ≡ d'.regions) (sym (or_right s.is_marked marked e)) (flat_stmt st (symbols_of p) s.privates scopes k v to d'))
         declares
-        (λ d' fair' ps' cells' holds' w' m' at' has'. stmt_follows st _ fair' scopes (inside_loop here) (loop_in scopes here around) (λ e''. refl) k tidy fits ok.1 served_st (free_right s (λ j. clauses_read j cs) (λ j. stmt_reads j rs) free) loose fresh _ has' ps' cells' (record { long = holds'.long; keeps = holds'.keeps; freezes = holds'.freezes }) w' m' at')
+        (λ d' fair' ps' cells' holds' w' m' at' has'. stmt_follows st _ fair' scopes (inside_loop here) (loop_in scopes here around) (λ e''. refl) k tidy fits ok.1 (free_right s (λ j. clauses_read j cs) (λ j. stmt_reads j rs) free) loose fresh _ has' ps' cells' (record { long = holds'.long; keeps = holds'.keeps; freezes = holds'.freezes }) w' m' at')
         (s.is_marked || marked)
         (λ e e' d' o number fair' ps' cells' holds' w' m' at' has'.
           let base : ℕ → ℤ = λ j. slice_index_or o.call.privates j (pos 0) in
-          stmt_follows st _ fair' scopes (inside_loop here) (loop_in scopes here around) (λ e''. refl) k tidy fits ok.1 served_st
+          stmt_follows st _ fair' scopes (inside_loop here) (loop_in scopes here around) (λ e''. refl) k tidy fits ok.1
           (λ j r. unfixed_read k reads_any writes_any base j (or_right (if_any (expr_reads j) cs.test || if_any (assignment_reads j) cs.step) (stmt_reads j rs) r))
           (λ j r. (let a = or_right (if_any (assigns j) cs.step) (stmt_assigns j rs) r in (unfixed_write k reads_any writes_any base j a, unkept_write k reads_any writes_any base j a)))
           (λ j r. (let own = not_below j k (stmt_declares j rs) (declares j) r in (own_unfixed k reads_any writes_any base j own, own_unkept k reads_any writes_any base j own)))
           _ has' ps' cells' holds' w' m' at')
         d has ps cells holds w m at
-    stmt_follows (tree.For marked h st) s fair scopes here around loops k tidy fits ok served free loose fresh d has ps cells holds w m at =
+    stmt_follows (tree.For marked h st) s fair scopes here around loops k tidy fits ok free loose fresh d has ps cells holds w m at =
         let v = s.version in
         let n = s.context.turns in
         let sc1 = words_after_init h.init ([] ∷ scopes) k in
@@ -431,13 +443,11 @@ module _ (p : Program) (code : CodeView) (words : code.globals ≡ words_in (lay
         let kind = resolve.kind_if (marked && not s.is_marked) s.privates cs rs in
         let done = loop_draft kind cs (stmt_size rs) (λ v' to' d'. stmt_draft rs v' to' d') v d0 in
         let has0 = has_loop code kind cs (stmt_size rs) (λ v' to' d'. stmt_draft rs v' to' d') v (λ v' to' d'. has_stmt code rs v' to' d') d0 has in
-        let served_clauses = and_left (serves_clauses cs) (serves_stmt rs) served in
-        let served_turns = and_right (serves_simples init) (serves_test cs.test && serves_step cs.step) served_clauses in
         let free_clauses = free_left s (λ j. clauses_read j cs) (λ j. stmt_reads j rs) free in
         let free_start = free_left s (λ j. any_of (simple_reads j) init || if_any (expr_reads j) cs.test) (λ j. if_any (assignment_reads j) cs.step) free_clauses in
         let loose_clauses = loose_left s (λ j. any_of (simple_assigns j) init || if_any (assigns j) cs.step) (λ j. stmt_assigns j rs) loose in
         let k1 = k + init_locals h.init in
-        let b = begin_follows h.init s fair scopes here around k tidy (omega arith) ok.0 (and_left (serves_simples init) (serves_test cs.test && serves_step cs.step) served_clauses)
+        let b = begin_follows h.init s fair scopes here around k tidy (omega arith) ok.0
           (free_left s (λ j. any_of (simple_reads j) init) (λ j. if_any (expr_reads j) cs.test) free_start) (loose_left s (λ j. any_of (simple_assigns j) init) (λ j. if_any (assigns j) cs.step) loose_clauses)
           (loose_left s (λ j. any_of (simple_declares j) init) (λ j. stmt_declares j rs) fresh) d.lines has0.lines ps cells holds w m at in
         let around1 = b.0 in
@@ -456,18 +466,17 @@ module _ (p : Program) (code : CodeView) (words : code.globals ≡ words_in (lay
         (λ env' w' m' stands. subst (λ x. Follows code n m' ((meant x >>= (λ out. gives (out.0, leave_scope out.1))) w') Done) (sym stands.env_is)
         (follows_then code n m' (meant (env_of sc1 (held s stands.ps stands.cells)) w') (λ out. gives (out.0, leave_scope out.1)) (Ends p code s sc1 (length done.lines)) Done
         (loop_follows p code words marked s.is_marked s k1 sc1 tidy1 fits1 here1 around1 init h.test h.step rs (λ c' env''. effect st c' env'') ok.1 ok.2
-        (and_left (serves_test cs.test) (serves_step cs.step) served_turns) (and_right (serves_test cs.test) (serves_step cs.step) served_turns)
         (free_right s (λ j. any_of (simple_reads j) init) (λ j. if_any (expr_reads j) cs.test) free_start)
         (free_right s (λ j. any_of (simple_reads j) init || if_any (expr_reads j) cs.test) (λ j. if_any (assignment_reads j) cs.step) free_clauses)
         (loose_right s (λ j. any_of (simple_assigns j) init) (λ j. if_any (assigns j) cs.step) loose_clauses) fair
         (λ e v' to d'. subst (λ b'. (stmt_draft (resolve_stmt st (record { symbols = symbols_of p; privates = s.privates; is_marked = b' }) sc1 k1) v' to d').regions ≡ d'.regions) (sym (or_right s.is_marked marked e)) (flat_stmt st (symbols_of p) s.privates sc1 k1 v' to d'))
         declares
-        (λ d' fair' ps' cells' holds' w'' m'' at' has'. stmt_follows st _ fair' sc1 (inside_loop here1) (loop_in sc1 here1 around1) (λ e''. refl) k1 tidy1 fits_body ok.3 (and_right (serves_clauses cs) (serves_stmt rs) served) (free_right s (λ j. clauses_read j cs) (λ j. stmt_reads j rs) free)
+        (λ d' fair' ps' cells' holds' w'' m'' at' has'. stmt_follows st _ fair' sc1 (inside_loop here1) (loop_in sc1 here1 around1) (λ e''. refl) k1 tidy1 fits_body ok.3 (free_right s (λ j. clauses_read j cs) (λ j. stmt_reads j rs) free)
           (loose_right s (λ j. any_of (simple_assigns j) init || if_any (assigns j) cs.step) (λ j. stmt_assigns j rs) loose) (loose_right s (λ j. any_of (simple_declares j) init) (λ j. stmt_declares j rs) fresh) _ has' ps' cells' (record { long = holds'.long; keeps = holds'.keeps; freezes = holds'.freezes }) w'' m'' at')
         (s.is_marked || marked)
         (λ e e' d' o number fair' ps' cells' holds' w'' m'' at' has'.
           let base : ℕ → ℤ = λ j. slice_index_or o.call.privates j (pos 0) in
-          stmt_follows st _ fair' sc1 (inside_loop here1) (loop_in sc1 here1 around1) (λ e''. refl) k1 tidy1 fits_body ok.3 (and_right (serves_clauses cs) (serves_stmt rs) served)
+          stmt_follows st _ fair' sc1 (inside_loop here1) (loop_in sc1 here1 around1) (λ e''. refl) k1 tidy1 fits_body ok.3
           (λ j r. unfixed_read k1 reads_any writes_any base j (or_right (if_any (expr_reads j) cs.test || if_any (assignment_reads j) cs.step) (stmt_reads j rs) r))
           (λ j r. (let a = or_right (if_any (assigns j) cs.step) (stmt_assigns j rs) r in (unfixed_write k1 reads_any writes_any base j a, unkept_write k1 reads_any writes_any base j a)))
           (λ j r. (let own = not_below j k1 (stmt_declares j rs) (declares j) r in (own_unfixed k1 reads_any writes_any base j own, own_unkept k1 reads_any writes_any base j own)))
@@ -475,23 +484,23 @@ module _ (p : Program) (code : CodeView) (words : code.globals ≡ words_in (lay
         d0 has stands.ps stands.cells stands.holds w' m' stands.at)
         (λ out w'' m'' ends. at_once code m'' (λ x. EndsBy p code s scopes (length done.lines) out.0 (leave_scope out.1) w'' x)
         (leave_ends s sc1 scopes top1 (length done.lines) out.0 out.1 w'' m'' ends))))
-    stmt_follows (tree.Break place) s fair scopes here around loops k tidy fits ok served free loose fresh d has ps cells holds w m at =
+    stmt_follows (tree.Break place) s fair scopes here around loops k tidy fits ok free loose fresh d has ps cells holds w m at =
         jumps s scopes s.context.turns s.to.break_to d has ps cells holds w m at Breaks (length (put s.version 0 (Jump s.to.break_to) d.lines)) (λ m' stands. (loops ok, stands))
-    stmt_follows (tree.Continue place) s fair scopes here around loops k tidy fits ok served free loose fresh d has ps cells holds w m at =
+    stmt_follows (tree.Continue place) s fair scopes here around loops k tidy fits ok free loose fresh d has ps cells holds w m at =
         jumps s scopes s.context.turns s.to.continue_to d has ps cells holds w m at Continues (length (put s.version 0 (Jump s.to.continue_to) d.lines)) (λ m' stands. (loops ok, stands))
-    stmt_follows (tree.Return place e) s fair scopes here around loops k tidy fits ok served free loose fresh d has ps cells holds w m at =
-        return_value s fair k scopes tidy (omega arith) here around e ok served free d.lines has.lines ps cells holds w m _ at
+    stmt_follows (tree.Return place e) s fair scopes here around loops k tidy fits ok free loose fresh d has ps cells holds w m at =
+        return_value s fair k scopes tidy (omega arith) here around e ok free d.lines has.lines ps cells holds w m _ at
 
     pub parts_follow : (parts : tree.Parts) (s : Scene) → Fair p code s → (scopes outer : Scopes) → Top scopes outer → (here : Surroundings) → Around p scopes here → (IsTrue here.in_loop → s.in_loop ≡ true) → (k : ℕ) → Tidy k scopes → k + parts_locals parts ≤ s.privates → AcceptsParts parts here
-        → IsTrue (serves_stmts (resolve_parts parts (around_of p s) scopes k)) → Free s (λ j. stmts_read j (resolve_parts parts (around_of p s) scopes k))
+        → Free s (λ j. stmts_read j (resolve_parts parts (around_of p s) scopes k))
         → Loose s (λ j. stmts_assign j (resolve_parts parts (around_of p s) scopes k)) → Loose s (λ j. stmts_declare j (resolve_parts parts (around_of p s) scopes k))
         → (d : Draft) → HasDraft code (stmts_draft (resolve_parts parts (around_of p s) scopes k) s.version s.to d)
         → (ps cells : List ℤ) → Holds s ps cells → (w : World) (m : Machine) → At p code s.ground (length d.lines) ps [] cells w m
         → Follows code s.context.turns m (effects parts s.context (env_of scopes (held s ps cells)) w) (PartsEnd s outer (length (stmts_draft (resolve_parts parts (around_of p s) scopes k) s.version s.to d).lines))
-    parts_follow tree.no_parts s fair scopes outer top here around loops k tidy fits ok served free loose fresh d has ps cells holds w m at =
+    parts_follow tree.no_parts s fair scopes outer top here around loops k tidy fits ok free loose fresh d has ps cells holds w m at =
         at_once code m (λ m'. Stands p code s outer (length d.lines) (leave_scope (env_of scopes (held s ps cells))) w m')
         (leave_stands s scopes outer top (length d.lines) (env_of scopes (held s ps cells)) w m (record { ps = ps; cells = cells; holds = holds; at = at; env_is = refl }))
-    parts_follow (tree.part_and (tree.Locals ls) parts) s fair scopes outer top here around loops k tidy fits ok served free loose fresh d has ps cells holds w m at =
+    parts_follow (tree.part_and (tree.Locals ls) parts) s fair scopes outer top here around loops k tidy fits ok free loose fresh d has ps cells holds w m at =
         let ss = resolve.resolve_locals ls (symbols_of p) scopes k in
         let scopes' = with_words ls scopes k in
         let rest = resolve_parts parts (around_of p s) scopes' (k + length ls) in
@@ -500,7 +509,6 @@ module _ (p : Program) (code : CodeView) (words : code.globals ≡ words_in (lay
         let same = draft_then ss rest s.version s.to d in
         let has1 : HasDraft code (stmts_draft rest s.version s.to d1) = subst (HasDraft code) same has in
         let has0 = has_stmts code rest s.version s.to d1 has1 in
-        let served' = subst IsTrue (serves_then ss rest) served in
         let free' : Free s (λ j. any_of (simple_reads j) ss || stmts_read j rest) = λ j e. free j (sym (reads_then ss rest j) ∙ e) in
         let loose' : Loose s (λ j. any_of (simple_assigns j) ss || stmts_assign j rest) = λ j e. loose j (sym (assigns_then ss rest j) ∙ e) in
         let fresh' : Loose s (λ j. any_of (simple_declares j) ss || stmts_declare j rest) = λ j e. fresh j (sym (declares_then ss rest j) ∙ e) in
@@ -509,13 +517,13 @@ module _ (p : Program) (code : CodeView) (words : code.globals ≡ words_in (lay
         subst (λ (x : Draft). Follows code n m (effects (tree.part_and (tree.Locals ls) parts) s.context (env_of scopes (held s ps cells)) w) (PartsEnd s outer (length x.lines))) (sym same)
         (then_rest n m (declare_all ls (call_in s.context) (env_of scopes (held s ps cells)) w) (effects parts s.context) Done
         (follows_then code n m (declare_all ls (call_in s.context) (env_of scopes (held s ps cells)) w) (effects parts s.context) (λ env' w' m'. Stands p code s scopes' (length d1.lines) env' w' m') Done
-        (locals_follow ls s fair scopes outer top k tidy (omega arith) here around ok.0 (and_left (serves_simples ss) (serves_stmts rest) served') (free_left s (λ j. any_of (simple_reads j) ss) (λ j. stmts_read j rest) free')
+        (locals_follow ls s fair scopes outer top k tidy (omega arith) here around ok.0 (free_left s (λ j. any_of (simple_reads j) ss) (λ j. stmts_read j rest) free')
           (loose_left s (λ j. any_of (simple_declares j) ss) (λ j. stmts_declare j rest) fresh') d.lines has0.lines ps cells holds w m at)
         (λ env' w' m' stands. subst (λ x. Follows code n m' (effects parts s.context x w') Done) (sym stands.env_is)
         (parts_follow parts s fair scopes' outer (top_words ls scopes outer top k) (with_locals ls here) (words_around ls scopes outer top here k around) (λ e. loops (locals_in_loop ls here ∙ e)) (k + length ls) (words_tidy ls scopes outer top k tidy) (omega arith) ok.1
-          (and_right (serves_simples ss) (serves_stmts rest) served') (free_right s (λ j. any_of (simple_reads j) ss) (λ j. stmts_read j rest) free')
+          (free_right s (λ j. any_of (simple_reads j) ss) (λ j. stmts_read j rest) free')
           (loose_right s (λ j. any_of (simple_assigns j) ss) (λ j. stmts_assign j rest) loose') (loose_right s (λ j. any_of (simple_declares j) ss) (λ j. stmts_declare j rest) fresh') d1 has1 stands.ps stands.cells stands.holds w' m' stands.at))))
-    parts_follow (tree.part_and (tree.Statement st) parts) s fair scopes outer top here around loops k tidy fits ok served free loose fresh d has ps cells holds w m at =
+    parts_follow (tree.part_and (tree.Statement st) parts) s fair scopes outer top here around loops k tidy fits ok free loose fresh d has ps cells holds w m at =
         let rs = resolve_stmt st (around_of p s) scopes k in
         let k' = k + stmt_locals st in
         let rest = resolve_parts parts (around_of p s) scopes k' in
@@ -523,9 +531,9 @@ module _ (p : Program) (code : CodeView) (words : code.globals ≡ words_in (lay
         let done = stmts_draft rest s.version s.to d1 in
         let env = env_of scopes (held s ps cells) in
         follows_then code s.context.turns m (effect st s.context env w) (λ out. go_on out.0 (effects parts s.context) out.1) (Ends p code s scopes (length d1.lines)) (PartsEnd s outer (length done.lines))
-        (stmt_follows st s fair scopes here around loops k tidy (omega arith) ok.0 (and_left (serves_stmt rs) (serves_stmts rest) served) (free_left s (λ j. stmt_reads j rs) (λ j. stmts_read j rest) free)
+        (stmt_follows st s fair scopes here around loops k tidy (omega arith) ok.0 (free_left s (λ j. stmt_reads j rs) (λ j. stmts_read j rest) free)
           (loose_left s (λ j. stmt_assigns j rs) (λ j. stmts_assign j rest) loose) (loose_left s (λ j. stmt_declares j rs) (λ j. stmts_declare j rest) fresh) d (has_stmts code rest s.version s.to d1 has) ps cells holds w m at)
         (λ out w' m' ends. outer_ends s scopes outer top (length d1.lines) out.0 out.1 w' m' (effects parts s.context) (length done.lines) ends
         (λ m'' stands. subst (λ env'. Follows code s.context.turns m'' (effects parts s.context env' w') (PartsEnd s outer (length done.lines))) (sym stands.env_is)
-        (parts_follow parts s fair scopes outer top here around loops k' (tidy_more k k' scopes (omega arith) tidy) (omega arith) ok.1 (and_right (serves_stmt rs) (serves_stmts rest) served) (free_right s (λ j. stmt_reads j rs) (λ j. stmts_read j rest) free)
+        (parts_follow parts s fair scopes outer top here around loops k' (tidy_more k k' scopes (omega arith) tidy) (omega arith) ok.1 (free_right s (λ j. stmt_reads j rs) (λ j. stmts_read j rest) free)
           (loose_right s (λ j. stmt_assigns j rs) (λ j. stmts_assign j rest) loose) (loose_right s (λ j. stmt_declares j rs) (λ j. stmts_declare j rest) fresh) d1 has stands.ps stands.cells stands.holds w' m'' stands.at)))

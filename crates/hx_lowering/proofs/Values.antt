@@ -11,31 +11,33 @@ use Rattle.hx_tree.specs.declared.outcome.FaultKind.TheVariants.{ZeroDivisor, In
 use Rattle.hx_tree.specs.Numbers.{is_zero, truth, unary_value, operator_value}
 use Rattle.hx_tree.specs.Tree as tree
 use Rattle.hx_tree.specs.Tree.{Program, Name}
-use Rattle.hx_tree.specs.World.{World, Answer, Gives, Faults, Unfinished, Run, ◌>>=◌, gives, or_fault, Environment, local_value, words_of, word_at, read_element}
-use Rattle.hx_tree.specs.Value.{Calling, value, read_variable, operate}
-use Rattle.hx_tree.specs.Accepted.{Surroundings, AcceptsExpr, IntKind, ArrayKind, kind_of}
+use Rattle.hx_tree.specs.World.{World, Answer, Gives, Faults, Unfinished, Run, ◌>>=◌, gives, or_fault, Environment, local_value, words_of, word_at, read_element, look_up}
+use Rattle.hx_tree.specs.Value.{Calling, value, values, read_variable, operate}
+use Rattle.hx_tree.specs.declared.tree.Returns.{Returns}
+use Rattle.hx_tree.specs.declared.tree.Returns.TheVariants as returns
+use Rattle.hx_tree.specs.Accepted.{Surroundings, AcceptsExpr, AcceptsExprs, IntKind, ArrayKind, FunctionKind, kind_of, kinds_of, count as tree_count}
 use Rattle.hx_check.specs.declared.resolved.Words.{Words}
 use Rattle.hx_check.specs.Resolved as resolved
 use Rattle.hx_check.specs.Symbols.{Scopes, private_word, symbols_of}
-use Rattle.hx_check.specs.Carried.{expr_reads}
-use Rattle.hx_check.specs.Resolve.{resolve_expr, variable, word_named, words_named}
+use Rattle.hx_check.specs.Carried.{expr_reads, exprs_read}
+use Rattle.hx_check.specs.Resolve.{resolve_expr, resolve_exprs, function_at, variable, word_named, words_named}
 use Rattle.hx_code.specs.declared.word.Word.{Word}
-use Rattle.hx_code.specs.declared.word.Word.TheVariants.{Const, Priv, Glob, Elem, Unary, Binary, Jump, JumpFalse, JumpTrue}
+use Rattle.hx_code.specs.declared.word.Word.TheVariants.{Const, Priv, Glob, Elem, Unary, Binary, Jump, JumpFalse, JumpTrue, Call}
 use Rattle.hx_code.specs.declared.word.Ask.TheVariants as ask
 use Rattle.hx_code.specs.declared.table.Carried.{Carried}
 use Rattle.hx_code.specs.Code.{CodeView}
 use Rattle.hx_code.specs.Call.{or_fault as or_asks, CallView, Want, Asks, wants, at_index, element, fault_at}
 use Rattle.hx_code.specs.Machine.{Machine}
 use Rattle.hx_lowering.specs.declared.line.Line.{Line}
-use Rattle.hx_lowering.specs.Lines.{Version, put, cell_of, get_at, get_private, array_of, expr_lines}
+use Rattle.hx_lowering.specs.Lines.{Version, put, cell_of, get_at, get_private, array_of, count, expr_lines, exprs_lines}
 use Rattle.hx_lowering.specs.Size.{expr_size}
-use Rattle.hx_lowering.specs.Serves.{serves_expr}
 use Rattle.hx_lowering.proofs.Globals.{Layout, store_from, words_in, place_of}
-use Rattle.hx_lowering.proofs.Follow.{Follows, follows_then, follows_last, at_once}
+use Rattle.hx_lowering.proofs.Follow.{Follows, follows_then, follows_so, follows_last, at_once}
 use Rattle.hx_lowering.proofs.Setting.{Ground, is_active, Memory}
-use Rattle.hx_lowering.proofs.Stand.{Has, has_before, word_stands, has_expr, length-put, length-expr}
+use Rattle.hx_lowering.proofs.Stand.{Has, has_before, word_stands, has_expr, has_exprs, length-put, length-expr}
 use Rattle.hx_lowering.proofs.At.{layout_of, call_at, world_at, At, at_place, roomy, goes_to, loads_to, faults_to}
-use Rattle.hx_lowering.proofs.Names.{env_of, value_of, names_of, Around, int_is, array_is, word_of}
+use Rattle.hx_lowering.proofs.Names.{env_of, value_of, names_of, Around, int_is, array_is, function_here, word_of}
+use Rattle.hx_lowering.proofs.Calling.{onto, CallsFollow}
 
 -- what a version's code reads for a private word
 abbrev pub private_value : Option ℕ → List ℤ → List ℤ → ℕ → ℤ
@@ -55,14 +57,6 @@ or_left a b e = ap (λ x. x || b) e
 pub or_right : (a b : Bool) → b ≡ true → (a || b) ≡ true
 or_right true b e = refl
 or_right false b e = e
-
-pub and_left : (a b : Bool) → IsTrue (a && b) → IsTrue a
-and_left true b h = refl
-and_left false b h = h
-
-pub and_right : (a b : Bool) → IsTrue (a && b) → IsTrue b
-and_right true b h = h
-and_right false b h = absurd cc
 
 truth_chosen : (b : Bool) → gives (truth (not b)) ≡ (if b then gives (pos 0) else gives (pos 1))
 truth_chosen true = refl
@@ -208,99 +202,141 @@ module _ (p : Program) (code : CodeView) (K : Ground) (v : Version) (words : cod
       (λ m' at'. value_at_once n m' _ ps os cells z w at'))
 
   -- THE expressions: after its words the value is on top, or the machine has ended with its fault
-  module _ (scopes : Scopes) (here : Surroundings) (around : Around p scopes here) (call : Calling) where
+  module _ (scopes : Scopes) (here : Surroundings) (around : Around p scopes here) (call : Calling) (n : ℕ) (calling : CallsFollow p code K call n) where
     abbrev R : tree.Expr → resolved.Expr
     R e = resolve_expr e (symbols_of p) scopes
 
-    pub value_follows : (e : tree.Expr) → AcceptsExpr e here → IsTrue (serves_expr (resolve_expr e (symbols_of p) scopes))
-        → (n h : ℕ) (held : ℕ → ℤ) (ps os cells : List ℤ) → Reads v ps cells held (λ k. expr_reads k (resolve_expr e (symbols_of p) scopes))
-        → (lines : List Line) → Has code (expr_lines (resolve_expr e (symbols_of p) scopes) v h lines)
-        → (w : World) (m : Machine) → At p code K (length lines) ps os cells w m
-        → Follows code n m (value e call (env_of scopes held) w) (Leaves (expr_lines (resolve_expr e (symbols_of p) scopes) v h lines) ps os cells)
-    value_follows (tree.Number k) ok served n h held ps os cells reads lines has w m at =
-        word_goes n h ps ps os (pos k ∷ os) cells w m (Const (pos k)) lines (Gives (pos k) w) (Leaves (put v h (Const (pos k)) lines) ps os cells) has at refl (λ m' at'. value_at_once n m' _ ps os cells (pos k) w at')
-    value_follows (tree.Variable x) ok served n h held ps os cells reads lines has w m at =
-        subst (λ o. Follows code n m (read_by x o w) (Leaves (expr_lines (R (tree.Variable x)) v h lines) ps os cells))
-        (sym (value_of scopes held x.text)) (variable_follows scopes here around x ok n h held ps os cells lines w m at (private_word scopes x.text) refl reads has)
-    value_follows (tree.Element x e) ok served n h held ps os cells reads lines has w m at =
-        let done = put v (h + 1) (Elem (array_of (words_named x (symbols_of p))) x.pos) (expr_lines (R e) v h lines) in
-        follows_then code n m (value e call (env_of scopes held) w) (λ i. read_element x i) (Leaves (expr_lines (R e) v h lines) ps os cells) (Leaves done ps os cells)
-        (value_follows e ok.1 served n h held ps os cells reads lines (has_before code v (h + 1) _ _ has) w m at)
-        (λ i w' m' at'. follows_last code n m' (read_element x i w') (Leaves done ps os cells)
-        (element_follows n (h + 1) x i (words_named x (symbols_of p)) ps os cells w' m' (expr_lines (R e) v h lines) gives (Leaves done ps os cells) (array_is p scopes here x around ok.0) has at' (λ z m'' at''. value_at_once n m'' _ ps os cells z w' at'')))
-    value_follows (tree.Call f es) ok served n h held ps os cells reads lines has w m at = absurd cc
-    value_follows (tree.Paren e) ok served n h held ps os cells reads lines has w m at = value_follows e ok served n h held ps os cells reads lines has w m at
-    value_follows (tree.Unary o e) ok served n h held ps os cells reads lines has w m at =
-        let done = put v (h + 1) (Unary o) (expr_lines (R e) v h lines) in
-        follows_then code n m (value e call (env_of scopes held) w) (λ x. gives (unary_value o x)) (Leaves (expr_lines (R e) v h lines) ps os cells) (Leaves done ps os cells)
-        (value_follows e ok served n h held ps os cells reads lines (has_before code v (h + 1) _ _ has) w m at)
-        (λ x w' m' at'. word_goes n (h + 1) ps ps (x ∷ os) (unary_value o x ∷ os) cells w' m' (Unary o) (expr_lines (R e) v h lines) (Gives (unary_value o x) w') (Leaves done ps os cells) has at' refl (λ m'' at''. value_at_once n m'' _ ps os cells (unary_value o x) w' at''))
-    value_follows (tree.Binary (Strict o) place l r) ok served n h held ps os cells reads lines has w m at =
-        let ls = expr_lines (R l) v h lines in
-        let rs = expr_lines (R r) v (h + 1) ls in
-        let has_r = has_before code v (h + 2) (Binary o place) rs has in
-        let done = put v (h + 2) (Binary o place) rs in
-        follows_then code n m (value l call (env_of scopes held) w) (λ x. value r call (env_of scopes held) >>= (λ y. operate o place x y)) (Leaves ls ps os cells) (Leaves done ps os cells)
-        (value_follows l ok.0 (and_left _ _ served) n h held ps os cells (λ k e. reads k (or_left _ _ e)) lines (has_expr code (R r) v (h + 1) ls has_r) w m at)
-        (λ x w' m' at'. follows_then code n m' (value r call (env_of scopes held) w') (λ y. operate o place x y) (Leaves rs ps (x ∷ os) cells) (Leaves done ps os cells)
-        (value_follows r ok.1 (and_right _ _ served) n (h + 1) held ps (x ∷ os) cells (λ k e. reads k (or_right _ _ e)) ls has_r w' m' at')
-        (λ y w'' m'' at''. follows_last code n m'' (operate o place x y w'') (Leaves done ps os cells)
-        (operator_follows n (h + 2) o place x y ps os cells w'' m'' rs gives (Leaves done ps os cells) has at'' (λ z m3 at3. value_at_once n m3 _ ps os cells z w'' at3))))
-    value_follows (tree.Binary And place l r) ok served n h held ps os cells reads lines has w m at =
-        let to = length lines + expr_size (R l) + 1 + expr_size (R r) + 3 in
-        let a = expr_lines (R l) v h lines in
-        let b = put v (h + 1) (JumpFalse to) a in
-        let c = expr_lines (R r) v h b in
-        let d = put v (h + 1) (JumpFalse to) c in
-        let e = put v h (Const (pos 1)) d in
-        let f = put v (h + 1) (Jump (to + 1)) e in
-        let done = put v h (Const (pos 0)) f in
-        let has_f = has_before code v h (Const (pos 0)) f has in
-        let has_e = has_before code v (h + 1) (Jump (to + 1)) e has_f in
-        let has_d = has_before code v h (Const (pos 1)) d has_e in
-        let has_c = has_before code v (h + 1) (JumpFalse to) c has_d in
-        let has_b = has_expr code (R r) v h b has_c in
-        let len : to ≡ length f = omega (arith, length-expr (R l) v h lines, length-put v (h + 1) (JumpFalse to) a, length-expr (R r) v h b, length-put v (h + 1) (JumpFalse to) c, length-put v h (Const (pos 1)) d, length-put v (h + 1) (Jump (to + 1)) e) in
-        let len' : to + 1 ≡ length done = ap (λ k. k + 1) len ∙ sym (length-put v h (Const (pos 0)) f) in
-        let on_zero : (w' : World) (m' : Machine) → At p code K to ps os cells w' m' → Follows code n m' (Gives (pos 0) w') (Leaves done ps os cells) = λ w' m' at'.
-        word_goes n h ps ps os (pos 0 ∷ os) cells w' m' (Const (pos 0)) f (Gives (pos 0) w') (Leaves done ps os cells) has (at_place p code K to (length f) ps os cells w' m' len at') refl (λ m'' at''. value_at_once n m'' _ ps os cells (pos 0) w' at'') in
-        let on_one : (w' : World) (m' : Machine) → At p code K (length d) ps os cells w' m' → Follows code n m' (Gives (pos 1) w') (Leaves done ps os cells) = λ w' m' at'.
-        word_goes n h ps ps os (pos 1 ∷ os) cells w' m' (Const (pos 1)) d (Gives (pos 1) w') (Leaves done ps os cells) has_e at' refl
-        (λ m'' at''. goes_to p code K n (length e) (to + 1) ps ps (pos 1 ∷ os) (pos 1 ∷ os) cells w' m'' (Jump (to + 1)) (Gives (pos 1) w') (Leaves done ps os cells) at'' (word_stands code v (h + 1) (Jump (to + 1)) e has_f) refl
-        (λ m3 at3. value_at_once n m3 done ps os cells (pos 1) w' (at_place p code K (to + 1) (length done) ps (pos 1 ∷ os) cells w' m3 len' at3))) in
-        follows_then code n m (value l call (env_of scopes held) w) (λ x. if is_zero x then gives (pos 0) else (value r call (env_of scopes held) >>= (λ y. gives (truth (not (is_zero y)))))) (Leaves a ps os cells) (Leaves done ps os cells)
-        (value_follows l ok.0 (and_left _ _ served) n h held ps os cells (λ k e. reads k (or_left _ _ e)) lines (has_before code v (h + 1) (JumpFalse to) a has_b) w m at)
-        (λ x w' m' at'. jump_follows n (h + 1) to x ps os cells w' m' a (gives (pos 0)) (value r call (env_of scopes held) >>= (λ y. gives (truth (not (is_zero y))))) (Leaves done ps os cells) has_b at' (on_zero w')
-        (λ m'' at''. follows_then code n m'' (value r call (env_of scopes held) w') (λ y. gives (truth (not (is_zero y)))) (Leaves c ps os cells) (Leaves done ps os cells)
-        (value_follows r ok.1 (and_right _ _ served) n h held ps os cells (λ k e. reads k (or_right _ _ e)) b has_c w' m'' at'')
-        (λ y w3 m3 at3. subst (λ g. Follows code n m3 (g w3) (Leaves done ps os cells)) (sym (truth_chosen (is_zero y)))
-        (jump_follows n (h + 1) to y ps os cells w3 m3 c (gives (pos 0)) (gives (pos 1)) (Leaves done ps os cells) has_d at3 (on_zero w3) (on_one w3)))))
-    value_follows (tree.Binary Or place l r) ok served n h held ps os cells reads lines has w m at =
-        let to = length lines + expr_size (R l) + 1 + expr_size (R r) + 3 in
-        let a = expr_lines (R l) v h lines in
-        let b = put v (h + 1) (JumpTrue to) a in
-        let c = expr_lines (R r) v h b in
-        let d = put v (h + 1) (JumpTrue to) c in
-        let e = put v h (Const (pos 0)) d in
-        let f = put v (h + 1) (Jump (to + 1)) e in
-        let done = put v h (Const (pos 1)) f in
-        let has_f = has_before code v h (Const (pos 1)) f has in
-        let has_e = has_before code v (h + 1) (Jump (to + 1)) e has_f in
-        let has_d = has_before code v h (Const (pos 0)) d has_e in
-        let has_c = has_before code v (h + 1) (JumpTrue to) c has_d in
-        let has_b = has_expr code (R r) v h b has_c in
-        let len : to ≡ length f = omega (arith, length-expr (R l) v h lines, length-put v (h + 1) (JumpTrue to) a, length-expr (R r) v h b, length-put v (h + 1) (JumpTrue to) c, length-put v h (Const (pos 0)) d, length-put v (h + 1) (Jump (to + 1)) e) in
-        let len' : to + 1 ≡ length done = ap (λ k. k + 1) len ∙ sym (length-put v h (Const (pos 1)) f) in
-        let on_one : (w' : World) (m' : Machine) → At p code K to ps os cells w' m' → Follows code n m' (Gives (pos 1) w') (Leaves done ps os cells) = λ w' m' at'.
-        word_goes n h ps ps os (pos 1 ∷ os) cells w' m' (Const (pos 1)) f (Gives (pos 1) w') (Leaves done ps os cells) has (at_place p code K to (length f) ps os cells w' m' len at') refl (λ m'' at''. value_at_once n m'' _ ps os cells (pos 1) w' at'') in
-        let on_zero : (w' : World) (m' : Machine) → At p code K (length d) ps os cells w' m' → Follows code n m' (Gives (pos 0) w') (Leaves done ps os cells) = λ w' m' at'.
-        word_goes n h ps ps os (pos 0 ∷ os) cells w' m' (Const (pos 0)) d (Gives (pos 0) w') (Leaves done ps os cells) has_e at' refl
-        (λ m'' at''. goes_to p code K n (length e) (to + 1) ps ps (pos 0 ∷ os) (pos 0 ∷ os) cells w' m'' (Jump (to + 1)) (Gives (pos 0) w') (Leaves done ps os cells) at'' (word_stands code v (h + 1) (Jump (to + 1)) e has_f) refl
-        (λ m3 at3. value_at_once n m3 done ps os cells (pos 0) w' (at_place p code K (to + 1) (length done) ps (pos 0 ∷ os) cells w' m3 len' at3))) in
-        follows_then code n m (value l call (env_of scopes held) w) (λ x. if not (is_zero x) then gives (pos 1) else (value r call (env_of scopes held) >>= (λ y. gives (truth (not (is_zero y)))))) (Leaves a ps os cells) (Leaves done ps os cells)
-        (value_follows l ok.0 (and_left _ _ served) n h held ps os cells (λ k e. reads k (or_left _ _ e)) lines (has_before code v (h + 1) (JumpTrue to) a has_b) w m at)
-        (λ x w' m' at'. jump_true_follows n (h + 1) to x ps os cells w' m' a (gives (pos 1)) (value r call (env_of scopes held) >>= (λ y. gives (truth (not (is_zero y))))) (Leaves done ps os cells) has_b at' (on_one w')
-        (λ m'' at''. follows_then code n m'' (value r call (env_of scopes held) w') (λ y. gives (truth (not (is_zero y)))) (Leaves c ps os cells) (Leaves done ps os cells)
-        (value_follows r ok.1 (and_right _ _ served) n h held ps os cells (λ k e. reads k (or_right _ _ e)) b has_c w' m'' at'')
-        (λ y w3 m3 at3. subst (λ g. Follows code n m3 (g w3) (Leaves done ps os cells)) (sym (truth_decided (is_zero y)))
-        (jump_true_follows n (h + 1) to y ps os cells w3 m3 c (gives (pos 1)) (gives (pos 0)) (Leaves done ps os cells) has_d at3 (on_one w3) (on_zero w3)))))
+    abbrev Rs : tree.Exprs → resolved.Exprs
+    Rs es = resolve_exprs es (symbols_of p) scopes
+
+    -- what the words of arguments leave
+    abbrev pub Stacks : tree.Exprs → List Line → List ℤ → List ℤ → List ℤ → List ℤ → World → Machine → Type 0
+    Stacks es lines ps os cells = λ vs w m. (length vs ≡ tree_count es) × At p code K (length lines) ps (onto vs os) cells w m
+
+    pub call_leaves : (f : Name) (r : Returns) (vs : List ℤ) → look_up (kinds_of p) f.text ≡ Some (FunctionKind r (length vs))
+        → (h : ℕ) (ps os cells : List ℤ) (lines : List Line) → Has code (put v h (Call (function_at f (symbols_of p)) f.pos) lines) → (w : World) (m : Machine) → At p code K (length lines) ps (onto vs os) cells w m
+        → Follows code n m (call f vs w) (Leaves (put v h (Call (function_at f (symbols_of p)) f.pos) lines) ps os cells)
+    call_leaves f r vs is h ps os cells lines has w m at =
+        let word = Call (function_at f (symbols_of p)) f.pos in
+        follows_so code n m (call f vs w) (λ x w' m'. At p code K (length lines + 1) ps (x ∷ os) cells w' m') (Leaves (put v h word lines) ps os cells)
+        (λ x w' m' at'. at_place p code K (length lines + 1) _ ps (x ∷ os) cells w' m' (sym (length-put v h word lines)) at')
+        (calling f r vs is (length lines) ps os cells w m at (word_stands code v h word lines has))
+
+    mutual
+      pub value_follows : (e : tree.Expr) → AcceptsExpr e here
+          → (h : ℕ) (held : ℕ → ℤ) (ps os cells : List ℤ) → Reads v ps cells held (λ k. expr_reads k (resolve_expr e (symbols_of p) scopes))
+          → (lines : List Line) → Has code (expr_lines (resolve_expr e (symbols_of p) scopes) v h lines)
+          → (w : World) (m : Machine) → At p code K (length lines) ps os cells w m
+          → Follows code n m (value e call (env_of scopes held) w) (Leaves (expr_lines (resolve_expr e (symbols_of p) scopes) v h lines) ps os cells)
+      value_follows (tree.Number k) ok h held ps os cells reads lines has w m at =
+          word_goes n h ps ps os (pos k ∷ os) cells w m (Const (pos k)) lines (Gives (pos k) w) (Leaves (put v h (Const (pos k)) lines) ps os cells) has at refl (λ m' at'. value_at_once n m' _ ps os cells (pos k) w at')
+      value_follows (tree.Variable x) ok h held ps os cells reads lines has w m at =
+          subst (λ o. Follows code n m (read_by x o w) (Leaves (expr_lines (R (tree.Variable x)) v h lines) ps os cells))
+          (sym (value_of scopes held x.text)) (variable_follows scopes here around x ok n h held ps os cells lines w m at (private_word scopes x.text) refl reads has)
+      value_follows (tree.Element x e) ok h held ps os cells reads lines has w m at =
+          let done = put v (h + 1) (Elem (array_of (words_named x (symbols_of p))) x.pos) (expr_lines (R e) v h lines) in
+          follows_then code n m (value e call (env_of scopes held) w) (λ i. read_element x i) (Leaves (expr_lines (R e) v h lines) ps os cells) (Leaves done ps os cells)
+          (value_follows e ok.1 h held ps os cells reads lines (has_before code v (h + 1) _ _ has) w m at)
+          (λ i w' m' at'. follows_last code n m' (read_element x i w') (Leaves done ps os cells)
+          (element_follows n (h + 1) x i (words_named x (symbols_of p)) ps os cells w' m' (expr_lines (R e) v h lines) gives (Leaves done ps os cells) (array_is p scopes here x around ok.0) has at' (λ z m'' at''. value_at_once n m'' _ ps os cells z w' at'')))
+      value_follows (tree.Call f es) ok h held ps os cells reads lines has w m at =
+          let word = Call (function_at f (symbols_of p)) f.pos in
+          let es' = exprs_lines (Rs es) v h lines in
+          let done = put v (h + count (Rs es)) word es' in
+          follows_then code n m (values es call (env_of scopes held) w) (λ vs. call f vs) (Stacks es es' ps os cells) (Leaves done ps os cells)
+          (values_follow es ok.1 h held ps os cells reads lines (has_before code v (h + count (Rs es)) word es' has) w m at)
+          (λ vs w' m' up. call_leaves f returns.Int vs (function_here p scopes here f returns.Int (length vs) around (ok.0 ∙ ap (λ k. Some (FunctionKind returns.Int k)) (sym up.0)))
+            (h + count (Rs es)) ps os cells es' has w' m' up.1)
+      value_follows (tree.Paren e) ok h held ps os cells reads lines has w m at = value_follows e ok h held ps os cells reads lines has w m at
+      value_follows (tree.Unary o e) ok h held ps os cells reads lines has w m at =
+          let done = put v (h + 1) (Unary o) (expr_lines (R e) v h lines) in
+          follows_then code n m (value e call (env_of scopes held) w) (λ x. gives (unary_value o x)) (Leaves (expr_lines (R e) v h lines) ps os cells) (Leaves done ps os cells)
+          (value_follows e ok h held ps os cells reads lines (has_before code v (h + 1) _ _ has) w m at)
+          (λ x w' m' at'. word_goes n (h + 1) ps ps (x ∷ os) (unary_value o x ∷ os) cells w' m' (Unary o) (expr_lines (R e) v h lines) (Gives (unary_value o x) w') (Leaves done ps os cells) has at' refl (λ m'' at''. value_at_once n m'' _ ps os cells (unary_value o x) w' at''))
+      value_follows (tree.Binary (Strict o) place l r) ok h held ps os cells reads lines has w m at =
+          let ls = expr_lines (R l) v h lines in
+          let rs = expr_lines (R r) v (h + 1) ls in
+          let has_r = has_before code v (h + 2) (Binary o place) rs has in
+          let done = put v (h + 2) (Binary o place) rs in
+          follows_then code n m (value l call (env_of scopes held) w) (λ x. value r call (env_of scopes held) >>= (λ y. operate o place x y)) (Leaves ls ps os cells) (Leaves done ps os cells)
+          (value_follows l ok.0 h held ps os cells (λ k e. reads k (or_left _ _ e)) lines (has_expr code (R r) v (h + 1) ls has_r) w m at)
+          (λ x w' m' at'. follows_then code n m' (value r call (env_of scopes held) w') (λ y. operate o place x y) (Leaves rs ps (x ∷ os) cells) (Leaves done ps os cells)
+          (value_follows r ok.1 (h + 1) held ps (x ∷ os) cells (λ k e. reads k (or_right _ _ e)) ls has_r w' m' at')
+          (λ y w'' m'' at''. follows_last code n m'' (operate o place x y w'') (Leaves done ps os cells)
+          (operator_follows n (h + 2) o place x y ps os cells w'' m'' rs gives (Leaves done ps os cells) has at'' (λ z m3 at3. value_at_once n m3 _ ps os cells z w'' at3))))
+      value_follows (tree.Binary And place l r) ok h held ps os cells reads lines has w m at =
+          let to = length lines + expr_size (R l) + 1 + expr_size (R r) + 3 in
+          let a = expr_lines (R l) v h lines in
+          let b = put v (h + 1) (JumpFalse to) a in
+          let c = expr_lines (R r) v h b in
+          let d = put v (h + 1) (JumpFalse to) c in
+          let e = put v h (Const (pos 1)) d in
+          let f = put v (h + 1) (Jump (to + 1)) e in
+          let done = put v h (Const (pos 0)) f in
+          let has_f = has_before code v h (Const (pos 0)) f has in
+          let has_e = has_before code v (h + 1) (Jump (to + 1)) e has_f in
+          let has_d = has_before code v h (Const (pos 1)) d has_e in
+          let has_c = has_before code v (h + 1) (JumpFalse to) c has_d in
+          let has_b = has_expr code (R r) v h b has_c in
+          let len : to ≡ length f = omega (arith, length-expr (R l) v h lines, length-put v (h + 1) (JumpFalse to) a, length-expr (R r) v h b, length-put v (h + 1) (JumpFalse to) c, length-put v h (Const (pos 1)) d, length-put v (h + 1) (Jump (to + 1)) e) in
+          let len' : to + 1 ≡ length done = ap (λ k. k + 1) len ∙ sym (length-put v h (Const (pos 0)) f) in
+          let on_zero : (w' : World) (m' : Machine) → At p code K to ps os cells w' m' → Follows code n m' (Gives (pos 0) w') (Leaves done ps os cells) = λ w' m' at'.
+          word_goes n h ps ps os (pos 0 ∷ os) cells w' m' (Const (pos 0)) f (Gives (pos 0) w') (Leaves done ps os cells) has (at_place p code K to (length f) ps os cells w' m' len at') refl (λ m'' at''. value_at_once n m'' _ ps os cells (pos 0) w' at'') in
+          let on_one : (w' : World) (m' : Machine) → At p code K (length d) ps os cells w' m' → Follows code n m' (Gives (pos 1) w') (Leaves done ps os cells) = λ w' m' at'.
+          word_goes n h ps ps os (pos 1 ∷ os) cells w' m' (Const (pos 1)) d (Gives (pos 1) w') (Leaves done ps os cells) has_e at' refl
+          (λ m'' at''. goes_to p code K n (length e) (to + 1) ps ps (pos 1 ∷ os) (pos 1 ∷ os) cells w' m'' (Jump (to + 1)) (Gives (pos 1) w') (Leaves done ps os cells) at'' (word_stands code v (h + 1) (Jump (to + 1)) e has_f) refl
+          (λ m3 at3. value_at_once n m3 done ps os cells (pos 1) w' (at_place p code K (to + 1) (length done) ps (pos 1 ∷ os) cells w' m3 len' at3))) in
+          follows_then code n m (value l call (env_of scopes held) w) (λ x. if is_zero x then gives (pos 0) else (value r call (env_of scopes held) >>= (λ y. gives (truth (not (is_zero y)))))) (Leaves a ps os cells) (Leaves done ps os cells)
+          (value_follows l ok.0 h held ps os cells (λ k e. reads k (or_left _ _ e)) lines (has_before code v (h + 1) (JumpFalse to) a has_b) w m at)
+          (λ x w' m' at'. jump_follows n (h + 1) to x ps os cells w' m' a (gives (pos 0)) (value r call (env_of scopes held) >>= (λ y. gives (truth (not (is_zero y))))) (Leaves done ps os cells) has_b at' (on_zero w')
+          (λ m'' at''. follows_then code n m'' (value r call (env_of scopes held) w') (λ y. gives (truth (not (is_zero y)))) (Leaves c ps os cells) (Leaves done ps os cells)
+          (value_follows r ok.1 h held ps os cells (λ k e. reads k (or_right _ _ e)) b has_c w' m'' at'')
+          (λ y w3 m3 at3. subst (λ g. Follows code n m3 (g w3) (Leaves done ps os cells)) (sym (truth_chosen (is_zero y)))
+          (jump_follows n (h + 1) to y ps os cells w3 m3 c (gives (pos 0)) (gives (pos 1)) (Leaves done ps os cells) has_d at3 (on_zero w3) (on_one w3)))))
+      value_follows (tree.Binary Or place l r) ok h held ps os cells reads lines has w m at =
+          let to = length lines + expr_size (R l) + 1 + expr_size (R r) + 3 in
+          let a = expr_lines (R l) v h lines in
+          let b = put v (h + 1) (JumpTrue to) a in
+          let c = expr_lines (R r) v h b in
+          let d = put v (h + 1) (JumpTrue to) c in
+          let e = put v h (Const (pos 0)) d in
+          let f = put v (h + 1) (Jump (to + 1)) e in
+          let done = put v h (Const (pos 1)) f in
+          let has_f = has_before code v h (Const (pos 1)) f has in
+          let has_e = has_before code v (h + 1) (Jump (to + 1)) e has_f in
+          let has_d = has_before code v h (Const (pos 0)) d has_e in
+          let has_c = has_before code v (h + 1) (JumpTrue to) c has_d in
+          let has_b = has_expr code (R r) v h b has_c in
+          let len : to ≡ length f = omega (arith, length-expr (R l) v h lines, length-put v (h + 1) (JumpTrue to) a, length-expr (R r) v h b, length-put v (h + 1) (JumpTrue to) c, length-put v h (Const (pos 0)) d, length-put v (h + 1) (Jump (to + 1)) e) in
+          let len' : to + 1 ≡ length done = ap (λ k. k + 1) len ∙ sym (length-put v h (Const (pos 1)) f) in
+          let on_one : (w' : World) (m' : Machine) → At p code K to ps os cells w' m' → Follows code n m' (Gives (pos 1) w') (Leaves done ps os cells) = λ w' m' at'.
+          word_goes n h ps ps os (pos 1 ∷ os) cells w' m' (Const (pos 1)) f (Gives (pos 1) w') (Leaves done ps os cells) has (at_place p code K to (length f) ps os cells w' m' len at') refl (λ m'' at''. value_at_once n m'' _ ps os cells (pos 1) w' at'') in
+          let on_zero : (w' : World) (m' : Machine) → At p code K (length d) ps os cells w' m' → Follows code n m' (Gives (pos 0) w') (Leaves done ps os cells) = λ w' m' at'.
+          word_goes n h ps ps os (pos 0 ∷ os) cells w' m' (Const (pos 0)) d (Gives (pos 0) w') (Leaves done ps os cells) has_e at' refl
+          (λ m'' at''. goes_to p code K n (length e) (to + 1) ps ps (pos 0 ∷ os) (pos 0 ∷ os) cells w' m'' (Jump (to + 1)) (Gives (pos 0) w') (Leaves done ps os cells) at'' (word_stands code v (h + 1) (Jump (to + 1)) e has_f) refl
+          (λ m3 at3. value_at_once n m3 done ps os cells (pos 0) w' (at_place p code K (to + 1) (length done) ps (pos 0 ∷ os) cells w' m3 len' at3))) in
+          follows_then code n m (value l call (env_of scopes held) w) (λ x. if not (is_zero x) then gives (pos 1) else (value r call (env_of scopes held) >>= (λ y. gives (truth (not (is_zero y)))))) (Leaves a ps os cells) (Leaves done ps os cells)
+          (value_follows l ok.0 h held ps os cells (λ k e. reads k (or_left _ _ e)) lines (has_before code v (h + 1) (JumpTrue to) a has_b) w m at)
+          (λ x w' m' at'. jump_true_follows n (h + 1) to x ps os cells w' m' a (gives (pos 1)) (value r call (env_of scopes held) >>= (λ y. gives (truth (not (is_zero y))))) (Leaves done ps os cells) has_b at' (on_one w')
+          (λ m'' at''. follows_then code n m'' (value r call (env_of scopes held) w') (λ y. gives (truth (not (is_zero y)))) (Leaves c ps os cells) (Leaves done ps os cells)
+          (value_follows r ok.1 h held ps os cells (λ k e. reads k (or_right _ _ e)) b has_c w' m'' at'')
+          (λ y w3 m3 at3. subst (λ g. Follows code n m3 (g w3) (Leaves done ps os cells)) (sym (truth_decided (is_zero y)))
+          (jump_true_follows n (h + 1) to y ps os cells w3 m3 c (gives (pos 1)) (gives (pos 0)) (Leaves done ps os cells) has_d at3 (on_one w3) (on_zero w3)))))
+
+      pub values_follow : (es : tree.Exprs) → AcceptsExprs es here
+          → (h : ℕ) (held : ℕ → ℤ) (ps os cells : List ℤ) → Reads v ps cells held (λ k. exprs_read k (resolve_exprs es (symbols_of p) scopes))
+          → (lines : List Line) → Has code (exprs_lines (resolve_exprs es (symbols_of p) scopes) v h lines)
+          → (w : World) (m : Machine) → At p code K (length lines) ps os cells w m
+          → Follows code n m (values es call (env_of scopes held) w) (Stacks es (exprs_lines (resolve_exprs es (symbols_of p) scopes) v h lines) ps os cells)
+      values_follow tree.no_exprs ok h held ps os cells reads lines has w m at =
+          at_once code m (λ m'. (0 ≡ 0) × At p code K (length lines) ps os cells w m') (refl, at)
+      values_follow (tree.expr_and e es) ok h held ps os cells reads lines has w m at =
+          let a = expr_lines (R e) v h lines in
+          let done = exprs_lines (Rs es) v (h + 1) a in
+          let Done = Stacks (tree.expr_and e es) done ps os cells in
+          follows_then code n m (value e call (env_of scopes held) w) (λ x. values es call (env_of scopes held) >>= (λ xs. gives (x ∷ xs))) (Leaves a ps os cells) Done
+          (value_follows e ok.0 h held ps os cells (λ k r. reads k (or_left _ _ r)) lines (has_exprs code (Rs es) v (h + 1) a has) w m at)
+          (λ x w' m' at'. follows_then code n m' (values es call (env_of scopes held) w') (λ xs. gives (x ∷ xs)) (Stacks es done ps (x ∷ os) cells) Done
+          (values_follow es ok.1 (h + 1) held ps (x ∷ os) cells (λ k r. reads k (or_right _ _ r)) a has w' m' at')
+          (λ xs w'' m'' up. let one : length (x ∷ xs) ≡ 1 + tree_count es = (let q = up.0 in omega arith) in
+          at_once code m'' (λ q. Done (x ∷ xs) w'' q) (one, up.1)))

@@ -2,5 +2,4 @@ pub mod Size
 pub mod Lines
 pub mod Draft
 pub mod Correct
-pub mod Serves
 pub mod Laws

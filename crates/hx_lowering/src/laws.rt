@@ -2,7 +2,7 @@
 
 ghost use Rattle.hx_lowering.specs.Laws.{CodeBehaves};
 
-/// The code of a program that is served does what the program means, and nothing else.
+/// The code of a program does what the program means, and nothing else.
 pub fn code_behaves()
     ensures { CodeBehaves }
 {}
