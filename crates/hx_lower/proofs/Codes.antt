@@ -13,7 +13,6 @@ use Rattle.hx_lowered.specs.Lowered.{LoweredCodeIsValid}
 use Rattle.hx_lowering.specs.Correct.{Behaves}
 use Rattle.hx_lowering.specs.Draft.{Draft, code_of}
 use Rattle.hx_lowering.specs.Laws.{CodeBehaves}
-use Rattle.hx_lowering.specs.Serves.{serves}
 use Rattle.hx_lowering.specs.Lines.{array_of}
 
 abbrev pub code_from : Draft → List ℤ → ℕ → Option Words → Option ℕ → CodeView
@@ -63,10 +62,9 @@ is_valid law p q code accepted same is few =
     let all : code ≡ code_of (resolve p) = is ∙ ap code_of same in
     subst IsValid (sym all) (law p accepted (subst (λ (c : CodeView). length c.words < 2 ^ 32) all few))
 
--- the code of a program that is served does what the program means
+-- the code of a program does what the program means
 pub does : CodeBehaves → (p : tree.Program) (q : resolved.Program) (code : CodeView)
-    → IsAccepted p → q ≡ resolve p → code ≡ code_of q → serves q ≡ true → Behaves p code
-does law p q code accepted same is served =
+    → IsAccepted p → q ≡ resolve p → code ≡ code_of q → Behaves p code
+does law p q code accepted same is =
     let all : code ≡ code_of (resolve p) = is ∙ ap code_of same in
-    let served_so : serves (resolve p) ≡ true = sym (ap serves same) ∙ served in
-    subst (Behaves p) (sym all) (law p accepted served_so)
+    subst (Behaves p) (sym all) (law p accepted)

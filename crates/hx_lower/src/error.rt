@@ -12,9 +12,6 @@ pub enum LowerError {
     /// 30: no memory for the words, or more words than 32 bits number.
     #[error("refused 30")]
     Memory,
-    /// 66: the program has what isn't lowered yet.
-    #[error("refused 66")]
-    NotServed,
 }
 
 impl From<AllocError> for LowerError {

@@ -7,7 +7,6 @@ mod error;
 mod expression;
 mod lowering;
 mod program;
-mod serves;
 mod size;
 mod statement;
 mod target;

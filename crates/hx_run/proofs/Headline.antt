@@ -12,10 +12,8 @@ use Rattle.hx_code.specs.Machine as machine
 use Rattle.hx_code.specs.Region.{held}
 use Rattle.hx_lowering.specs.Draft.{code_of}
 use Rattle.hx_lowering.specs.Correct.{Behaves, Shows}
-use Rattle.std.specs.Prelude.{Bool, true, false, IsTrue, Result, Ok, Err, IfOk, OnOk}
+use Rattle.std.specs.Prelude.{Result, Ok, Err, IfOk, OnOk}
 use Rattle.hx_tree.specs.Accepted.{IsAccepted}
-use Rattle.hx_lowering.specs.Serves.{serves}
-use Rattle.hx_lowering.specs.Laws.{CodeBehaves}
 use Rattle.hx_run.specs.declared.running.PlainRan.{PlainRan}
 use Rattle.hx_run.specs.declared.running.PlainRan.TheVariants.{Ended, More}
 use Rattle.hx_run.specs.Sources.{IsSourceOf, IsSpelledAlone}
@@ -36,16 +34,11 @@ ending_is a b t g f n = rw (t, g, f, n) refl
 pub is_code : (source : List ℕ) (p : Program) → IsSourceOf source p → Behaves p (code_of (resolve p)) → IsCodeOf source (code_of (resolve p))
 is_code source p is_source behaves = record { program = p; is_source = is_source; room = same_room p is_source.accepted; behaves = behaves }
 
-served : (b : Bool) → (b ≡ false → ⊥) → IsTrue b
-served true h = refl
-served false h = absurd (h refl)
-
 -- what the stages make of a source is its code
-pub compiled : (source : List ℕ) (p : Program) (code : CodeView) → IsSpelledAlone source p → IsAccepted p → CodeBehaves → (serves (resolve p) ≡ false → ⊥)
-    → code ≡ code_of (resolve p) → IsCodeOf source code
-compiled source p code alone accepted behaves serve e =
+pub compiled : (source : List ℕ) (p : Program) (code : CodeView) → IsSpelledAlone source p → IsAccepted p → code ≡ code_of (resolve p) → Behaves p code → IsCodeOf source code
+compiled source p code alone accepted e behaves =
     subst (λ c. IsCodeOf source c) (sym e)
-    (is_code source p (record { spells = alone.spells; accepted = accepted }) (behaves p accepted (served (serves (resolve p)) serve)))
+    (is_code source p (record { spells = alone.spells; accepted = accepted }) (subst (λ c. Behaves p c) e behaves))
 
 pub is_finish : (source : List ℕ) (input : List ℤ) (code : CodeView) (f : Finish) → IsCodeOf source code → machine.InputFits code input → EndsSo code input f → IsFinishOf source input f
 is_finish source input code f of fits_code (n, (ended, counts)) =

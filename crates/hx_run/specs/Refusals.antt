@@ -15,18 +15,14 @@ use Rattle.hx_input.specs.declared.input.InputError.{InputError}
 use Rattle.hx_input.specs.declared.input.InputError.TheVariants as input
 use Rattle.hx_run.specs.declared.refusal.Refusal.{Refusal}
 use Rattle.hx_run.specs.declared.refusal.Refusal.TheVariants.{Lex, Parse, Check, Lower, Settings, InputTooLong, Memory, InputText}
-use Rattle.hx_tree.specs.Tree.{Program}
-use Rattle.hx_check.specs.Resolve.{resolve}
-use Rattle.hx_lowering.specs.Serves.{serves}
 use Rattle.hx_input.specs.InputText.{IsInputText}
-use Rattle.hx_run.specs.Sources.{IsSourceOf, IsSourceOfNone}
+use Rattle.hx_run.specs.Sources.{IsSourceOfNone}
 
 abbrev pub number_of : Refusal → ℕ
 number_of (Lex e) = lexer.number_of e
 number_of (Parse e) = parser.number_of e
 number_of (Check e) = checker.number_of e
 number_of (Lower lower.Memory) = 30
-number_of (Lower lower.NotServed) = 66
 number_of Settings = 60
 number_of InputTooLong = 61
 number_of Memory = 62
@@ -50,14 +46,7 @@ is_memory (Lower lower.Memory) = true
 is_memory Memory = true
 is_memory _ = false
 
--- the source is that of an accepted program that isn't lowered yet
-pub record IsNotServed (source : List ℕ) : Type 0 where
-  pub program : Program
-  pub is_source : IsSourceOf source program
-  pub not_served : serves (resolve program) ≡ false
-
--- a refusal of a source: memory says nothing of it, 66 that its program isn't served, and any other that it is the source of no
--- accepted program
+-- a refusal of a source: memory says nothing of it, and any other means that it is the source of no accepted program
 abbrev pub RefusesSource : List ℕ → Refusal → Type 0
 RefusesSource source (Lex lex.Memory) = Unit {0}
 RefusesSource source (Lex e) = IsSourceOfNone source
@@ -66,7 +55,6 @@ RefusesSource source (Parse e) = IsSourceOfNone source
 RefusesSource source (Check check.Memory) = Unit {0}
 RefusesSource source (Check e) = IsSourceOfNone source
 RefusesSource source (Lower lower.Memory) = Unit {0}
-RefusesSource source (Lower lower.NotServed) = IsNotServed source
 RefusesSource source _ = ⊥
 
 -- what the refusals of the machine and of the input text are

@@ -25,7 +25,7 @@ pub enum Refusal {
     /// 20 to 27: the program isn't accepted.
     #[error(transparent)]
     Check(CheckError),
-    /// 30: no memory for its code; 66: a program that isn't served yet.
+    /// 30: no memory for its code.
     #[error(transparent)]
     Lower(LowerError),
     /// 60: the settings are out of range.
@@ -52,7 +52,6 @@ impl Refusal {
             Refusal::Parse(e) => e.number(),
             Refusal::Check(e) => e.number(),
             Refusal::Lower(LowerError::Memory) => 30,
-            Refusal::Lower(LowerError::NotServed) => 66,
             Refusal::Settings => 60,
             Refusal::InputTooLong => 61,
             Refusal::Memory => 62,

@@ -12,7 +12,6 @@ use hx_check::check::check;
 use hx_code::code::Code;
 use hx_lex::tokens;
 use hx_lower::lower;
-use hx_lowering::laws::code_behaves;
 use hx_parse::parse;
 use hx_tree::tree::Program;
 use std::alloc::Global;
@@ -30,14 +29,12 @@ fn read(alloc: Global, source: &[u8]) -> Result<Program, Refusal>
 ///
 /// An `Ok` is code that takes the inputs of the accepted program that the source spells, and ends, with its text, its globals,
 /// its end and its whole turns, exactly where the program does. Refusals: 1 to 5, 10, 11 and 20 to 26 mean that the source is
-/// that of no accepted program; 66 that its program has what isn't served yet; 6, 12, 27 and 30 that memory was refused, which
-/// says nothing of the source.
+/// that of no accepted program; 6, 12, 27 and 30 that memory was refused, which says nothing of the source.
 pub fn compile(alloc: Global, source: &[u8]) -> Result<Code, Refusal>
     ensures code { IfOk result (IsCodeOf source.now) }
     ensures refused { IfErr result (RefusesSource source.now) }
 {
     let program = read(alloc, source)?;
     let checked = check(alloc, program)?;
-    code_behaves();
     Ok(lower(alloc, &checked)?)
 }

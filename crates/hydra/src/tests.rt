@@ -16,7 +16,7 @@ struct Shown {
     status: u8,
 }
 
-fn shown<R: Files + AllocGlobal + Wait>(rt: &R, words: &[&str]) -> Shown {
+fn done_by<R: Files + AllocGlobal + Wait>(rt: &R, words: &[&str]) -> Shown {
     let mut out = Vec::new(rt.alloc());
     let mut err = Vec::new(rt.alloc());
     let status = command(rt, words, &mut out, &mut err);

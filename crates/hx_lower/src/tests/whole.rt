@@ -1,6 +1,6 @@
 // Whole programs, from a tree that is checked to the listing of its code.
 
-use crate::{LowerError, listing, lower};
+use crate::{listing, lower};
 use hx_check::check::check;
 use hx_tree::token::Pos;
 use hx_tree::tree::{
@@ -89,7 +89,7 @@ fn the_shortest_listing(rt: HostRuntime) -> Result<(), Fail> {
 
 // `int f(){;} int main(){ print(f()); }`
 #[test]
-fn a_call_is_not_served(rt: HostRuntime) -> Result<(), Fail> {
+fn a_call(rt: HostRuntime) -> Result<(), Fail> {
     let alloc = rt.alloc();
     let f = Item::Function(Func {
         returns: Returns::Int,
@@ -104,10 +104,10 @@ fn a_call_is_not_served(rt: HostRuntime) -> Result<(), Fail> {
         items: vec![in alloc; f, main]?,
     };
     let checked = check(alloc, program)?;
-    match lower(alloc, &checked) {
-        Ok(_code) => assert!(rt; false),
-        Err(error) => assert_eq!(rt; error, LowerError::NotServed),
-    }
+    let text = listing(alloc, &lower(alloc, &checked)?)?;
+    let wanted =
+        b"globals 0\nfunc f 0 0 0\nfunc main 2 0 0\n0 const 0\n1 ret\n2 call 0 1 31\n3 print 1 25\n4 const 0\n5 ret\n";
+    assert_eq!(rt; text.as_slice(), wanted.as_slice());
     Ok(())
 }
 

@@ -1,4 +1,4 @@
-use Rattle.std.proofs.Common.{◌≡◌, ◌∙◌, sym, true, false}
+use Rattle.std.proofs.Common.{◌≡◌, ◌∙◌, true, false}
 use Rattle.hx_tree.specs.View.{program_of}
 use Rattle.hx_check.specs.Views.{resolved_of}
 use Rattle.hx_lower.proofs.Codes.{is_valid, does}
@@ -16,4 +16,3 @@ pub returns-clause-behaves : goal.returns-clause-behaves
 returns-clause-behaves c =
     does c.code_behaves.ensures (program_of c.args.checked.now) (resolved_of c.program-program.result.now) c.in-Some.code
     c.program-program.ensures.accepted c.program-program.ensures.resolved (c.in-Some.ensures.code ∙ c.in_ok-words.ensures.code)
-    (sym c.if-not-serves.ensures)
