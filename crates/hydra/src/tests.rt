@@ -46,8 +46,7 @@ const COUNT: &[u8] = b"int c; int main(){ pwhile(c<3){ print(c); c=c+1; } }";
 
 const TWO_TURNS: &[u8] = b"int c; int main(){ pwhile(c<2){ c=c+1; } }";
 
-const PAST_THE_END: &[u8] =
-    b"int a[4]; int main(){ pfor(int i=0;i<8;i++){ a[i]=i+1; print(i);} }";
+const PAST_THE_END: &[u8] = b"int a[4]; int main(){ pfor(int i=0;i<8;i++){ a[i]=i+1; print(i);} }";
 
 const SUM: &[u8] =
     b"int in[3]; int n_in; int main(){ int s=0; pfor(int i=0;i<n_in;i++) s+=in[i]; print(s); return s; }";
@@ -75,13 +74,6 @@ fn refuses_sources(rt: HostRuntime) -> Result<(), Fail> {
     expect(&rt, &found, b"", b"hydra: refused 25\n", 2);
     let found = on_source(&rt, p, COUNT, &["hydra", "run", p, "--workers", "0"])?;
     expect(&rt, &found, b"", b"hydra: refused 60\n", 2);
-    let found = on_source(
-        &rt,
-        p,
-        b"int f(){ return 1; } int main(){ print(f()); }",
-        &["hydra", "run", p],
-    )?;
-    expect(&rt, &found, b"", b"hydra: refused 66\n", 2);
     let found = on_source(&rt, p, COUNT, &["hydra", "check", p])?;
     expect(&rt, &found, b"ok\n", b"", 0);
     Ok(())
