@@ -111,6 +111,7 @@ impl<'c> Open<'c> {
     pub fn entry(&self, alloc: Global) -> Result<Entry, AllocError>
         ensures entry { IfOk result (λ e. IsEntryOf self.now.code self.now.region.opened self.now.region.store e) }
         ensures fits { IfOk result (λ e. EntryFits self.now.code self.now.region.opened.region e) }
+        ensures printed { IfOk result (λ e. e.text_len ≡ length self.now.outer.text) }
     {
         region_entry(alloc, self.code, &self.state)
     }
@@ -228,6 +229,7 @@ fn region_entry(alloc: Global, code: &Code, state: &State) -> Result<Entry, Allo
     requires well { StandsWell code.now (machine_of state.now) }
     ensures entry { IfOk result (λ e. IsEntryOf code.now (opened_of state.now.iterations.opened) state.now.store.items e) }
     ensures fits { IfOk result (λ e. EntryFits code.now state.now.iterations.opened.region e) }
+    ensures printed { IfOk result (λ e. e.text_len ≡ length state.now.text.items) }
 {
     code.known();
     entry_of(alloc, code, &state.iterations.opened, &state.store)

@@ -1,7 +1,9 @@
 // Codes by hand, run by the plain machine. Places of words and answers follow from the language's rules.
 
-use crate::entry::Entry;
-use crate::plain::{Open, Paused, Plain, Ran, Reached};
+ghost use Rattle.std.specs.Prelude.{◌≡◌};
+
+use crate::entry::{Entry, RegionEnd};
+use crate::plain::{Open, Paused, Plain, PlainError, Ran, Reached};
 use crate::region_run::RegionRun;
 use crate::text::print;
 use hx_code::code::Code;
@@ -473,4 +475,82 @@ fn entries_of_two_turns(rt: HostRuntime) -> Result<(), Fail> {
     assert_eq!(rt; entry.depth, 1);
     assert_eq!(rt; entry.text_len, 0);
     Ok(())
+}
+
+// The end of the region that opened, run by itself: it goes on after so many words, and ends with one
+// more.
+fn by_itself(alloc: Global, code: &Code, open: &Open, steps: u64) -> Result<RegionEnd, Fail>
+    requires { open.now.code ≡ code.now }
+{
+    let entry = open.entry(alloc)?;
+    let mut run = RegionRun::new(alloc, code, open.region(), &entry)?;
+    if run.run(steps) {
+        return Err(Fail::from("the region has ended"));
+    }
+    let Err(mut run) = run.end() else {
+        return Err(Fail::from("the region has an end"));
+    };
+    let _ended = run.run(1);
+    let Ok(end) = run.end() else {
+        return Err(Fail::from("the region goes on"));
+    };
+    Ok(end)
+}
+
+// A whole turn takes 9 words, and the last test with `leave` 5.
+#[test]
+fn a_region_runs_by_itself(rt: HostRuntime) -> Result<(), Fail> {
+    let code = two_turns(rt.alloc())?;
+    let Ok(plain) = Plain::new(rt.alloc(), &code, &[]) else {
+        return Err(Fail::from("no machine"));
+    };
+    match plain.to_region(1) {
+        Paused::At(open) => {
+            assert_eq!(rt; open.region(), 0);
+            let end = by_itself(rt.alloc(), &code, &open, 22)?;
+            assert_eq!(rt; end.exit, Exit::Left);
+            assert_eq!(rt; end.store.len(), 65);
+            assert_eq!(rt; end.store.first().copied(), Some(2));
+            assert_eq!(rt; end.locals.len(), 0);
+            assert_eq!(rt; end.text.len(), 0);
+            assert_eq!(rt; end.counts.turns, 2);
+            assert_eq!(rt; end.counts.regions, 1);
+            Ok(())
+        }
+        Paused::Ended(_, _) => Err(Fail::from("ended")),
+        Paused::More(_) => Err(Fail::from("no region")),
+    }
+}
+
+#[test]
+fn a_region_past_the_words_is_not_reached(rt: HostRuntime) -> Result<(), Fail> {
+    let code = two_turns(rt.alloc())?;
+    let Ok(plain) = Plain::new(rt.alloc(), &code, &[]) else {
+        return Err(Fail::from("no machine"));
+    };
+    match plain.to_region(0) {
+        Paused::More(again) => match again.to_region(1) {
+            Paused::At(open) => {
+                assert_eq!(rt; open.region(), 0);
+                Ok(())
+            }
+            Paused::Ended(_, _) => Err(Fail::from("ended")),
+            Paused::More(_) => Err(Fail::from("no region")),
+        },
+        Paused::At(_) => Err(Fail::from("a region without a word")),
+        Paused::Ended(_, _) => Err(Fail::from("ended")),
+    }
+}
+
+// The input is one word longer than its array, and there is no array.
+#[test]
+fn input_without_its_array_is_refused(rt: HostRuntime) -> Result<(), Fail> {
+    let code = empty_main(rt.alloc())?;
+    match Plain::new(rt.alloc(), &code, &[1]) {
+        Ok(_) => Err(Fail::from("a machine")),
+        Err(refusal) => {
+            assert_eq!(rt; refusal, PlainError::InputUnfit);
+            Ok(())
+        }
+    }
 }
