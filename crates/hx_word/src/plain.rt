@@ -58,12 +58,14 @@ impl From<AllocError> for PlainError {
 }
 
 /// What a run of so many words comes to: its outcome and its counts, or more to be done.
+#[derive(Drop)]
 pub enum Ran<'c> {
     Ended(Outcome, Counts),
     More(Plain<'c>),
 }
 
 /// Where a run stops that stops as a region opens: there, at its end, or after its words.
+#[derive(Drop)]
 pub enum Paused<'c> {
     At(Open<'c>),
     Ended(Outcome, Counts),

@@ -73,6 +73,7 @@ impl<'c> RegionRun<'c> {
     /// takes no memory.
     pub fn run(&mut self, steps: u64) -> bool
         ensures ran { self.new ≡ record self.old { state = region_after self.old.code steps self.old.state } }
+        ensures opened { self.new.state.opened ≡ self.old.state.opened }
         ensures told { result ≡ is_some self.new.state.exit }
     {
         if self.exit.is_some() {

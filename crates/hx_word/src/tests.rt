@@ -479,11 +479,11 @@ fn entries_of_two_turns(rt: HostRuntime) -> Result<(), Fail> {
 
 // The end of the region that opened, run by itself: it goes on after so many words, and ends with one
 // more.
-fn by_itself(alloc: Global, code: &Code, open: &Open, steps: u64) -> Result<RegionEnd, Fail>
-    requires { open.now.code ≡ code.now }
+fn by_itself(alloc: Global, code: &Code, at: &Open, steps: u64) -> Result<RegionEnd, Fail>
+    requires { at.now.code ≡ code.now }
 {
-    let entry = open.entry(alloc)?;
-    let mut run = RegionRun::new(alloc, code, open.region(), &entry)?;
+    let entry = at.entry(alloc)?;
+    let mut run = RegionRun::new(alloc, code, at.region(), &entry)?;
     if run.run(steps) {
         return Err(Fail::from("the region has ended"));
     }
@@ -553,4 +553,48 @@ fn input_without_its_array_is_refused(rt: HostRuntime) -> Result<(), Fail> {
             Ok(())
         }
     }
+}
+
+// The run behind the region that opened, once that has ended by itself: so many words of it.
+fn behind(
+    alloc: Global,
+    code: &Code,
+    at: Open,
+    steps: u64,
+) -> Result<Option<(Outcome, Counts)>, Fail>
+    requires { at.code ≡ code.now }
+{
+    let entry = at.entry(alloc)?;
+    let mut run = RegionRun::new(alloc, code, at.region(), &entry)?;
+    let _ended = run.run(1000);
+    let Ok(end) = run.end() else {
+        return Err(Fail::from("the region goes on"));
+    };
+    match at.resume(&end).run(steps) {
+        Ran::Ended(outcome, counts) => Ok(Some((outcome, counts))),
+        Ran::More(_) => Ok(None),
+    }
+}
+
+// Behind the region `const 0` and `ret` are left.
+#[test]
+fn a_run_goes_on_behind_its_region(rt: HostRuntime) -> Result<(), Fail> {
+    let code = two_turns(rt.alloc())?;
+    for (steps, want) in [(1, false), (2, true)] {
+        let Ok(plain) = Plain::new(rt.alloc(), &code, &[]) else {
+            return Err(Fail::from("no machine"));
+        };
+        let Paused::At(at) = plain.to_region(1) else {
+            return Err(Fail::from("no region"));
+        };
+        let shown = behind(rt.alloc(), &code, at, steps)?;
+        assert_eq!(rt; shown.is_some(), want);
+        if let Some((outcome, counts)) = shown {
+            assert_eq!(rt; outcome.globals.as_slice(), [2].as_slice());
+            assert_eq!(rt; outcome.end, End::Normal(0));
+            assert_eq!(rt; counts.turns, 2);
+            assert_eq!(rt; counts.regions, 1);
+        }
+    }
+    Ok(())
 }
