@@ -1,19 +1,14 @@
 -- The store as a run begins is the world as it begins.
-use Rattle.std.proofs.Common.{◌≡◌, ℕ, zero, suc, ◌+◌, ◌-◌, ◌≤◌, ◌<◌, Bool, true, false, List, [], ◌∷◌, ◌++◌, length, map, replicate, drop, Option, Some, None, ℤ, pos, refl, sym, ap, subst, ◌∙◌, arith, if◌then◌else◌, length-append}
+use Rattle.std.proofs.Common.{◌≡◌, ℕ, suc, ◌+◌, ◌-◌, ◌≤◌, Bool, true, false, List, [], ◌∷◌, ◌++◌, length, map, replicate, drop, Some, None, ℤ, pos, refl, sym, ap, subst, ◌∙◌, arith, if◌then◌else◌, length-append}
 use Rattle.std.specs.Prelude.{bytes_eq, codes, flat_map, sum_by, option_map, All}
 use Rattle.std.proofs.lemmas.List.{length-map, length-replicate, length-drop}
 use Rattle.std.proofs.lemmas.List.Sums.{sum_by-cons}
-use Rattle.std.proofs.lemmas.Slice.Eq.{bytes_eq-Decides}
-use Rattle.hx_tree.specs.declared.tree.Returns.{Returns}
 use Rattle.hx_tree.specs.declared.limits.TheConstants.{CELL_LIMIT}
 use Rattle.hx_tree.specs.Tree.{Program, Item, Globals, Function, GlobalDecl, Shape, Scalar, Array}
-use Rattle.hx_tree.specs.World.{look_up}
 use Rattle.hx_tree.specs.Meaning.{item_globals, globals_of, opening_words, constant_value, filled, counted, words_at_start, array_words, opening_world, InputFits}
-use Rattle.hx_tree.specs.Accepted.{Kind, AcceptsItem, AcceptsShape, IsAccepted, shape_words, is_among, IsDistinct}
+use Rattle.hx_tree.specs.Accepted.{AcceptsItem, AcceptsShape, IsAccepted, shape_words, is_among, IsDistinct}
 use Rattle.hx_check.specs.declared.resolved.Words.{Words}
-use Rattle.hx_check.specs.declared.symbol.Symbol.{Symbol}
-use Rattle.hx_check.specs.declared.symbol.Symbol.TheVariants as symbol
-use Rattle.hx_check.specs.Symbols.{symbol_at, symbols_of}
+use Rattle.hx_check.specs.Symbols.{symbol_at}
 use Rattle.hx_check.specs.Resolve.{resolve, int_word}
 use Rattle.hx_check.specs.Resolve as resolve
 use Rattle.hx_code.specs.Machine as code
@@ -104,6 +99,7 @@ filled_fits input (g ∷ gs) d f room =
       where
         others : is_among (codes "in") (map gname gs) ≡ false
         others = subst (λ y. is_among y (map gname gs) ≡ false) (same_text g.name.text (codes "in") e) d.0
+
         at_it : (sh : Shape) → g.shape ≡ sh → length (filled input sh) ≡ shape_words sh
         at_it (Scalar c) is = subst (λ sh. length (opening_words sh) ≡ shape_words sh) is f.0
         at_it (Array n cs) is =
@@ -119,6 +115,7 @@ counted_fits input (g ∷ gs) f = (go (bytes_eq g.name.text (codes "n_in")) refl
     at_it (Scalar c) is e = refl
     at_it (Array n cs) is e =
         subst (λ sh. length (opening_words sh) ≡ shape_words sh) is (subst (λ ws. length ws ≡ shape_words g.shape) (same_words input g e) f.0)
+
     go : (b : Bool) → bytes_eq g.name.text (codes "n_in") ≡ b → length (if b then counted input g.shape else with_input input g) ≡ shape_words g.shape
     go true e = at_it g.shape refl e
     go false e = f.0
