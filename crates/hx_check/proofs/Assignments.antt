@@ -1,7 +1,7 @@
 -- The checks of assignments and declarations are right exactly where they are accepted, and give them resolved.
-use Rattle.std.proofs.Common.{◌≡◌, ℕ, suc, ◌+◌, ◌<◌, ◌≤◌, Bool, true, false, List, [], ◌∷◌, ◌++◌, length, drop, refl, ap, sym, ◌∙◌, subst, append_assoc, append-nil, add-zero, arith}
-use Rattle.std.specs.Prelude.{Option, Some, None, Ok, Err, nat_lt, IsFalse, option_map}
-use Rattle.std.proofs.lemmas.Bool.{ltb-true, lt-ltb}
+use Rattle.std.proofs.Common.{◌≡◌, ℕ, ◌+◌, ◌<◌, ◌≤◌, Bool, true, false, List, [], ◌∷◌, ◌++◌, length, refl, ap, sym, ◌∙◌, subst, append_assoc, append-nil, add-zero, arith}
+use Rattle.std.specs.Prelude.{Option, Some, None, Ok, nat_lt, option_map}
+use Rattle.std.proofs.lemmas.Bool.{lt-ltb}
 use Rattle.hx_tree.specs.declared.limits.TheConstants.{PRIVATE_LIMIT}
 use Rattle.hx_tree.specs.declared.token.Pos.{Pos}
 use Rattle.hx_tree.specs.declared.tree.Returns.{Returns}
@@ -12,12 +12,12 @@ use Rattle.hx_tree.specs.Accepted.{Surroundings, AcceptsExpr, AcceptsPlace, Acce
 use Rattle.hx_check.specs.declared.error.CheckError.{CheckError}
 use Rattle.hx_check.specs.declared.here.Here.{Here}
 use Rattle.hx_check.specs.declared.symbol.Symbol.{Symbol}
-use Rattle.hx_check.specs.Resolved.{Expr, Number, Place, ToElement, Assignment, Set, Update, Simple, Declare, Assign}
+use Rattle.hx_check.specs.Resolved.{Expr, Place, Assignment, Simple, Declare, Assign}
 use Rattle.hx_check.specs.Symbols.{Known, Scopes, private_word, with_word, with_words, words_after_init, is_in_scope}
-use Rattle.hx_check.specs.Resolve.{resolve_expr, resolve_place, resolve_assignment, resolve_locals, resolve_init, words_named, expr_or_zero}
-use Rattle.hx_check.specs.Reading.{Checks, ◌>>=◌, unless, check_expr, check_place, check_assignment, check_or_zero, check_test, check_step, check_variable, check_array, check_new, declare, check_locals, check_init, check_return, write}
-use Rattle.hx_check.proofs.Steps.{bind_ok, bind_at, if_ok, if_at, else_ok, else_at, same_ok}
-use Rattle.hx_check.proofs.WhatIsNamed.{surroundings, kinds, texts, texts_in, is_among_is, kind_is, kind_at, int_written, int_known, array_at, array_known}
+use Rattle.hx_check.specs.Resolve.{resolve_expr, resolve_place, resolve_assignment, resolve_locals, resolve_init, expr_or_zero}
+use Rattle.hx_check.specs.Reading.{unless, check_expr, check_place, check_assignment, check_or_zero, check_test, check_step, check_array, check_new, declare, check_locals, check_init, check_return}
+use Rattle.hx_check.proofs.Steps.{bind_ok, bind_at, if_at, else_ok, else_at, same_ok}
+use Rattle.hx_check.proofs.WhatIsNamed.{surroundings, kinds, texts, is_among_is, kind_is, int_written, int_known, array_at, array_known}
 use Rattle.hx_check.proofs.Expressions.{complete, sound}
 
 -- ---- places and assignments
@@ -27,7 +27,7 @@ complete_place (tree.ToVariable x) symbols here scopes h =
     int_written x (private_word scopes x.text) (look_up symbols x.text) (sym (kind_is x symbols here scopes) ∙ h)
 complete_place (tree.ToElement x e) symbols here scopes h =
     bind_at _ _ _ _ (array_at x (private_word scopes x.text) (look_up symbols x.text) (sym (kind_is x symbols here scopes) ∙ h.0))
-        (bind_at _ _ _ _ (complete e symbols here scopes h.1) refl)
+    (bind_at _ _ _ _ (complete e symbols here scopes h.1) refl)
 
 pub sound_place : (p : tree.Place) (symbols : Map Symbol) (here : Here) (scopes : Scopes) (r : Place) → check_place p symbols scopes ≡ Ok r → AcceptsPlace p (surroundings symbols here scopes)
 sound_place (tree.ToVariable x) symbols here scopes r h =
@@ -155,11 +155,11 @@ complete_locals (d ∷ ds) symbols here scopes k done room h =
     let rest = subst (λ (s : Surroundings). AcceptsLocals ds s) (with_local_is d symbols here scopes k) h.2 in
     let count : (k + 1) + length ds ≡ k + length (d ∷ ds) = omega arith in
     bind_at _ _ _ _ (complete_new d.name (at scopes k) h.1)
-        (bind_at _ _ _ _ (complete_or_zero d.init symbols here scopes h.0)
-            (bind_at _ _ _ _ (declare_at d.name scopes k (omega arith))
-                (complete_locals ds symbols here (with_word scopes d.name.text k) (k + 1) (done ++ next ∷ []) (omega arith) rest
-                ∙ ap (λ l. Ok (l, at (with_words (d ∷ ds) scopes k) ((k + 1) + length ds))) (append_assoc done (next ∷ []) (resolve_locals ds symbols (with_word scopes d.name.text k) (k + 1)))
-                ∙ ap (λ n. Ok (done ++ resolve_locals (d ∷ ds) symbols scopes k, at (with_words (d ∷ ds) scopes k) n)) count)))
+    (bind_at _ _ _ _ (complete_or_zero d.init symbols here scopes h.0)
+    (bind_at _ _ _ _ (declare_at d.name scopes k (omega arith))
+    (complete_locals ds symbols here (with_word scopes d.name.text k) (k + 1) (done ++ next ∷ []) (omega arith) rest
+    ∙ ap (λ l. Ok (l, at (with_words (d ∷ ds) scopes k) ((k + 1) + length ds))) (append_assoc done (next ∷ []) (resolve_locals ds symbols (with_word scopes d.name.text k) (k + 1)))
+    ∙ ap (λ n. Ok (done ++ resolve_locals (d ∷ ds) symbols scopes k, at (with_words (d ∷ ds) scopes k) n)) count)))
 
 pub sound_locals : (ds : List tree.LocalDecl) (symbols : Map Symbol) (here : Here) (scopes : Scopes) (k : ℕ) (done : List Simple) (r : List Simple × Known) → k + length ds ≤ PRIVATE_LIMIT → check_locals ds symbols (at scopes k) done ≡ Ok r → AcceptsLocals ds (surroundings symbols here scopes)
 sound_locals [] symbols here scopes k done r room h = tt
@@ -169,17 +169,18 @@ sound_locals (d ∷ ds) symbols here scopes k done r room h =
     let c = bind_ok (declare d.name (at scopes k)) _ r b.2 in
     let same = same_ok (declare d.name (at scopes k)) c.0 (k, at (with_word scopes d.name.text k) (k + 1)) c.1 (declare_at d.name scopes k (omega arith)) in
     let go = subst (λ (p : ℕ × Known). check_locals ds symbols p.1 (done ++ Declare p.0 b.0 ∷ []) ≡ Ok r) same c.2 in
-    let rest = sound_locals ds symbols here (with_word scopes d.name.text k) (k + 1) (done ++ Declare k b.0 ∷ []) r (omega arith) go in
-    (sound_or_zero d.init symbols here scopes b.0 b.1
-    , sound_new d.name (at scopes k) a.0 a.1
-    , subst (λ (s : Surroundings). AcceptsLocals ds s) (sym (with_local_is d symbols here scopes k)) rest)
+    let rest = sound_locals ds symbols here (with_word scopes d.name.text k) (k + 1) (done ++ Declare k b.0 ∷ []) r (omega arith) go in (
+      sound_or_zero d.init symbols here scopes b.0 b.1,
+      sound_new d.name (at scopes k) a.0 a.1,
+      subst (λ (s : Surroundings). AcceptsLocals ds s) (sym (with_local_is d symbols here scopes k)) rest,
+    )
 
 pub complete_init : (i : tree.Init) (symbols : Map Symbol) (here : Here) (scopes : Scopes) (k : ℕ) → k + init_locals i ≤ PRIVATE_LIMIT → AcceptsInit i (surroundings symbols here scopes) → check_init i symbols (at scopes k) ≡ Ok (resolve_init i symbols scopes k, at (words_after_init i scopes k) (k + init_locals i))
 complete_init tree.NoInit symbols here scopes k room h = ap (λ n. Ok ([], at scopes n)) (sym (add-zero k))
 complete_init (tree.InitLocals ds) symbols here scopes k room h = complete_locals ds symbols here scopes k [] room h
 complete_init (tree.InitAssign a) symbols here scopes k room h =
     bind_at _ _ _ _ (complete_assignment a symbols here scopes h)
-        (ap (λ n. Ok (Assign (resolve_assignment a symbols scopes) ∷ [], at scopes n)) (sym (add-zero k)))
+    (ap (λ n. Ok (Assign (resolve_assignment a symbols scopes) ∷ [], at scopes n)) (sym (add-zero k)))
 
 pub sound_init : (i : tree.Init) (symbols : Map Symbol) (here : Here) (scopes : Scopes) (k : ℕ) (r : List Simple × Known) → k + init_locals i ≤ PRIVATE_LIMIT → check_init i symbols (at scopes k) ≡ Ok r → AcceptsInit i (surroundings symbols here scopes)
 sound_init tree.NoInit symbols here scopes k r room h = tt

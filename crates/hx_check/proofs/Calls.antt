@@ -1,5 +1,5 @@
 -- Nodes of the tree that hold a list of nodes, as the reading sees them.
-use Rattle.std.proofs.Common.{Global, ◌≡◌, ℕ, suc, ◌+◌, true, false, List, [], ◌∷◌, map, length, refl, ap, sym, ◌∙◌, arith}
+use Rattle.std.proofs.Common.{Global, ◌≡◌, true, false, List, [], ◌∷◌, map, length, refl, ap, ◌∙◌, arith}
 use Rattle.std.specs.Prelude.{Vec, Ok}
 use Rattle.std.proofs.lemmas.List.{length-map}
 use Rattle.hx_tree.specs.declared.tree.Name.{Name}
@@ -16,7 +16,7 @@ use Rattle.hx_tree.proofs.View.{call_is, block_is}
 use Rattle.hx_check.specs.declared.symbol.Symbol.{Symbol}
 use Rattle.hx_check.specs.Resolved.{Call, exprs, Block, stmts, CallStatement}
 use Rattle.hx_check.specs.Symbols.{Known, Scopes}
-use Rattle.hx_check.specs.Reading.{Checks, ◌>>=◌, check_expr, check_exprs, check_callee, check_stmt, check_parts, in_scope, out_of_scope}
+use Rattle.hx_check.specs.Reading.{◌>>=◌, check_expr, check_exprs, check_callee, check_stmt, check_parts, in_scope, out_of_scope}
 use Rattle.hx_check.specs.declared.here.Here.{Here}
 
 count_exprs : (es : List tree.Expr) → count (tree.exprs es) ≡ length es
@@ -29,7 +29,7 @@ count_items es = count_exprs (map expr_of es) ∙ length-map es expr_of
 pub call_at : (e : code.Expr) (f : Name) (args : Vec code.Expr Global) (symbols : Map Symbol) (scopes : Scopes) → e ≡ expr.Call f args
     → check_expr (expr_of e) symbols scopes
     ≡ (check_callee true (name_of f) (length args.items) symbols scopes
-      >>= (λ number. check_exprs (tree.exprs (map expr_of args.items)) symbols scopes [] >>= (λ arguments. Ok (Call number f.pos (exprs arguments)))))
+    >>= (λ number. check_exprs (tree.exprs (map expr_of args.items)) symbols scopes [] >>= (λ arguments. Ok (Call number f.pos (exprs arguments)))))
 call_at e f args symbols scopes is =
     ap (λ e'. check_expr (expr_of e') symbols scopes) is
     ∙ ap (λ t. check_expr t symbols scopes) (call_is f args)
@@ -44,7 +44,7 @@ block_at s ps symbols here known is =
 pub call_statement_at : (s : code_stmt.Stmt) (f : Name) (args : Vec code.Expr Global) (symbols : Map Symbol) (here : Here) (known : Known) → s ≡ stmt.CallStatement f args
     → check_stmt (stmt_of s) symbols here known
     ≡ (check_callee false (name_of f) (length args.items) symbols known.scopes
-      >>= (λ number. check_exprs (tree.exprs (map expr_of args.items)) symbols known.scopes [] >>= (λ arguments. Ok (CallStatement number f.pos (exprs arguments), known))))
+    >>= (λ number. check_exprs (tree.exprs (map expr_of args.items)) symbols known.scopes [] >>= (λ arguments. Ok (CallStatement number f.pos (exprs arguments), known))))
 call_statement_at s f args symbols here known is =
     ap (λ s'. check_stmt (stmt_of s') symbols here known) is
     ∙ ap (λ n. check_callee false (name_of f) n symbols known.scopes >>= (λ number. check_exprs (tree.exprs (map expr_of args.items)) symbols known.scopes [] >>= (λ arguments. Ok (CallStatement number f.pos (exprs arguments), known)))) (count_items args.items)

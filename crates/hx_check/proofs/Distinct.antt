@@ -1,10 +1,10 @@
 -- Names that stand once: each isn't among those before it, which is the same as not being among those behind it.
-use Rattle.std.proofs.Common.{◌≡◌, ℕ, Bool, true, false, List, [], ◌∷◌, ◌++◌, refl, ap, sym, ◌∙◌, append_assoc, append-nil, subst, map, if◌then◌else◌}
-use Rattle.std.specs.Prelude.{bytes_eq, IsFalse, Ok, Err}
+use Rattle.std.proofs.Common.{◌≡◌, ℕ, Bool, true, false, List, [], ◌∷◌, ◌++◌, refl, ap, sym, ◌∙◌, append_assoc, append-nil, subst, if◌then◌else◌}
+use Rattle.std.specs.Prelude.{bytes_eq, Ok}
 use Rattle.hx_tree.specs.Tree as tree
 use Rattle.hx_tree.specs.Meaning.{texts_of}
 use Rattle.hx_tree.specs.Accepted.{is_among, IsDistinct}
-use Rattle.hx_check.specs.Reading.{Checks, check_distinct}
+use Rattle.hx_check.specs.Reading.{check_distinct}
 use Rattle.hx_check.proofs.Steps.{else_ok, else_at}
 use Rattle.hx_check.proofs.Tables.{bytes_eq-sym}
 

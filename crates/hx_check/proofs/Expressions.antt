@@ -1,20 +1,19 @@
 -- The checks of expressions are right exactly where they are accepted, and give the resolved expression.
-use Rattle.std.proofs.Common.{◌≡◌, ℕ, ◌+◌, ◌≤◌, true, List, [], ◌∷◌, ◌++◌, refl, ap, sym, ◌∙◌, append_assoc, append-nil}
-use Rattle.std.specs.Prelude.{Option, Some, None, Ok, Err, nat_le}
+use Rattle.std.proofs.Common.{◌≡◌, true, List, [], ◌∷◌, ◌++◌, refl, ap, sym, ◌∙◌, append_assoc, append-nil}
+use Rattle.std.specs.Prelude.{Ok, nat_le}
 use Rattle.std.proofs.lemmas.Bool.{leb-true, le-leb}
 use Rattle.hx_tree.specs.declared.limits.TheConstants.{CONSTANT_LIMIT}
-use Rattle.hx_tree.specs.declared.tree.Returns.TheVariants as returns
 use Rattle.hx_tree.specs.Tree as tree
 use Rattle.hx_tree.specs.World.{Map, look_up}
-use Rattle.hx_tree.specs.Accepted.{AcceptsExpr, AcceptsExprs, AcceptsPlace, AcceptsAssignment, IfThere, count, IsInt, IsArray, IntKind, ArrayKind, FunctionKind}
+use Rattle.hx_tree.specs.Accepted.{AcceptsExpr, AcceptsExprs, count}
 use Rattle.hx_check.specs.declared.here.Here.{Here}
 use Rattle.hx_check.specs.declared.symbol.Symbol.{Symbol}
-use Rattle.hx_check.specs.Resolved.{Expr, Number, Element, Call, Unary, Binary, Exprs, no_exprs, expr_and, exprs, Place, ToElement, Assignment, Set, Update}
+use Rattle.hx_check.specs.Resolved.{Expr, Call, Exprs, no_exprs, expr_and, exprs}
 use Rattle.hx_check.specs.Symbols.{Scopes, private_word}
-use Rattle.hx_check.specs.Resolve.{resolve_expr, resolve_exprs, resolve_place, resolve_assignment, words_named, function_at, expr_or_zero}
-use Rattle.hx_check.specs.Reading.{Checks, ◌>>=◌, check_expr, check_exprs, check_place, check_assignment, check_or_zero, check_test, check_step, check_variable, check_array, check_callee, read, write}
-use Rattle.hx_check.proofs.Steps.{bind_ok, bind_at, if_ok, if_at, same_ok}
-use Rattle.hx_check.proofs.WhatIsNamed.{surroundings, kind_is, kind_at, int_read, int_written, int_known, array_at, array_known, value_at, value_known}
+use Rattle.hx_check.specs.Resolve.{resolve_expr, resolve_exprs, function_at}
+use Rattle.hx_check.specs.Reading.{check_expr, check_exprs, check_array, check_callee}
+use Rattle.hx_check.proofs.Steps.{bind_ok, bind_at, if_ok, if_at}
+use Rattle.hx_check.proofs.WhatIsNamed.{surroundings, kind_is, int_read, int_known, array_at, array_known, value_at, value_known}
 
 -- the resolved expressions as a list
 abbrev pub list_of : Exprs → List Expr
@@ -32,11 +31,11 @@ mutual
       int_read x (private_word scopes x.text) (look_up symbols x.text) (sym (kind_is x symbols here scopes) ∙ h)
   complete (tree.Element x e) symbols here scopes h =
       bind_at _ _ _ _ (array_at x (private_word scopes x.text) (look_up symbols x.text) (sym (kind_is x symbols here scopes) ∙ h.0))
-          (bind_at _ _ _ _ (complete e symbols here scopes h.1) refl)
+      (bind_at _ _ _ _ (complete e symbols here scopes h.1) refl)
   complete (tree.Call f es) symbols here scopes h =
       bind_at _ _ _ _ (value_at f (count es) (private_word scopes f.text) (look_up symbols f.text) (sym (kind_is f symbols here scopes) ∙ h.0))
-          (bind_at _ _ _ _ (complete_all es symbols here scopes [] h.1)
-              (ap (λ es'. Ok (Call (function_at f symbols) f.pos es')) (exprs-list (resolve_exprs es symbols scopes))))
+      (bind_at _ _ _ _ (complete_all es symbols here scopes [] h.1)
+      (ap (λ es'. Ok (Call (function_at f symbols) f.pos es')) (exprs-list (resolve_exprs es symbols scopes))))
   complete (tree.Paren e) symbols here scopes h = complete e symbols here scopes h
   complete (tree.Unary op e) symbols here scopes h = bind_at _ _ _ _ (complete e symbols here scopes h) refl
   complete (tree.Binary op pos l r) symbols here scopes h =
@@ -46,8 +45,8 @@ mutual
   complete_all tree.no_exprs symbols here scopes done h = ap (λ l. Ok l) (sym (append-nil done))
   complete_all (tree.expr_and e es) symbols here scopes done h =
       bind_at _ _ _ _ (complete e symbols here scopes h.0)
-          (complete_all es symbols here scopes (done ++ resolve_expr e symbols scopes ∷ []) h.1
-          ∙ ap (λ l. Ok l) (append_assoc done (resolve_expr e symbols scopes ∷ []) (list_of (resolve_exprs es symbols scopes))))
+      (complete_all es symbols here scopes (done ++ resolve_expr e symbols scopes ∷ []) h.1
+      ∙ ap (λ l. Ok l) (append_assoc done (resolve_expr e symbols scopes ∷ []) (list_of (resolve_exprs es symbols scopes))))
 
 mutual
   pub sound : (e : tree.Expr) (symbols : Map Symbol) (here : Here) (scopes : Scopes) (r : Expr) → check_expr e symbols scopes ≡ Ok r → AcceptsExpr e (surroundings symbols here scopes)

@@ -1,26 +1,25 @@
 -- The checks of functions are right exactly where they are accepted, and give them resolved.
-use Rattle.std.proofs.Common.{◌≡◌, ℕ, ◌+◌, ◌≤◌, Bool, true, false, List, [], ◌∷◌, ◌++◌, length, map, refl, ap, sym, ◌∙◌, subst, append_assoc, append-nil, arith}
-use Rattle.std.specs.Prelude.{Ok, Err, nat_le}
+use Rattle.std.proofs.Common.{◌≡◌, ℕ, ◌+◌, ◌≤◌, false, List, [], ◌∷◌, length, refl, ap, sym, subst}
+use Rattle.std.specs.Prelude.{Ok, nat_le}
 use Rattle.std.proofs.lemmas.Bool.{leb-true, le-leb}
 use Rattle.hx_tree.specs.declared.limits.TheConstants.{PARAMETER_LIMIT, PRIVATE_LIMIT, OPERAND_LIMIT}
 use Rattle.hx_tree.specs.Tree as tree
 use Rattle.hx_tree.specs.World.{Map}
 use Rattle.hx_tree.specs.Meaning.{texts_of}
 use Rattle.hx_tree.specs.Need.{function_need}
-use Rattle.hx_tree.specs.Accepted.{Surroundings, AcceptsParts, AcceptsFunction, IsDistinct, at_start, private_words, parts_locals}
+use Rattle.hx_tree.specs.Accepted.{Surroundings, AcceptsParts, AcceptsFunction, at_start, private_words}
 use Rattle.hx_check.specs.declared.error.CheckError.{CheckError}
 use Rattle.hx_check.specs.declared.error.CheckError.TheVariants.{LimitPassed}
 use Rattle.hx_check.specs.declared.here.Here.{Here}
 use Rattle.hx_check.specs.declared.symbol.Symbol.{Symbol}
-use Rattle.hx_check.specs.Resolved.{Stmt, stmts, Function}
-use Rattle.hx_check.specs.Symbols.{Known, Scopes, numbered}
-use Rattle.hx_check.specs.Resolve.{resolve_function, resolve_parts, around_function}
-use Rattle.hx_check.specs.Reading.{Checks, ◌>>=◌, limited, check_distinct, check_parts, check_function, with_parameters}
+use Rattle.hx_check.specs.Resolved.{Function}
+use Rattle.hx_check.specs.Symbols.{Scopes, numbered}
+use Rattle.hx_check.specs.Resolve.{resolve_function, resolve_parts}
+use Rattle.hx_check.specs.Reading.{limited, check_distinct, check_parts, check_function, with_parameters}
 use Rattle.hx_check.proofs.Steps.{bind_ok, bind_at, if_ok, if_at, same_ok}
 use Rattle.hx_check.proofs.WhatIsNamed.{surroundings, kinds, texts_in}
-use Rattle.hx_check.proofs.Assignments.{at}
 use Rattle.hx_check.proofs.Distinct.{distinct_of, fresh_of, complete_distinct, sound_distinct}
-use Rattle.hx_check.proofs.Statements.{complete_parts, sound_parts, list_of_stmts, stmts-list, words_after, around}
+use Rattle.hx_check.proofs.Statements.{complete_parts, sound_parts, stmts-list, around}
 
 pub limited_at : (n limit : ℕ) (e : CheckError) → n ≤ limit → limited n limit e ≡ Ok n
 limited_at n limit e h = if_at (nat_le n limit) _ _ (le-leb n limit h)
@@ -52,10 +51,10 @@ complete_function f symbols h =
     let few : private_words f ≤ PRIVATE_LIMIT = h.few_private in
     let r = resolve_parts f.body (around symbols (here_in f)) (first_scopes f) (length xs) in
     bind_at _ _ _ _ (limited_at (private_words f) PRIVATE_LIMIT (LimitPassed f.name.pos) few)
-        (bind_at _ _ _ _ (limited_at (function_need f) OPERAND_LIMIT (LimitPassed f.name.pos) h.few_operands)
-            (bind_at _ _ _ _ (complete_distinct xs [] (fresh_of (texts_of xs) h.distinct))
-                (bind_at _ _ _ _ (complete_parts f.body symbols (here_in f) (first_scopes f) (length xs) [] few body)
-                    (ap (λ b. Ok (record { name = f.name.text; parameters = length xs; privates = private_words f; need = function_need f; body = b })) (stmts-list r)))))
+    (bind_at _ _ _ _ (limited_at (function_need f) OPERAND_LIMIT (LimitPassed f.name.pos) h.few_operands)
+    (bind_at _ _ _ _ (complete_distinct xs [] (fresh_of (texts_of xs) h.distinct))
+    (bind_at _ _ _ _ (complete_parts f.body symbols (here_in f) (first_scopes f) (length xs) [] few body)
+    (ap (λ b. Ok (record { name = f.name.text; parameters = length xs; privates = private_words f; need = function_need f; body = b })) (stmts-list r)))))
 
 pub sound_function : (f : tree.Func) (symbols : Map Symbol) (r : Function) → length (tree.param_names f.params) ≤ PARAMETER_LIMIT → check_function f symbols ≡ Ok r → AcceptsFunction (kinds symbols) f
 sound_function f symbols r few h =

@@ -1,6 +1,6 @@
 -- The items of a program are declared exactly where they are accepted, and the global names are then those of the program.
-use Rattle.std.proofs.Common.{◌≡◌, ℕ, ◌+◌, ◌<◌, ◌≤◌, Bool, true, false, List, [], ◌∷◌, ◌++◌, length, map, refl, ap, sym, ◌∙◌, subst, append_assoc, append-nil, add-zero, add_assoc, length-append, arith, if◌then◌else◌}
-use Rattle.std.specs.Prelude.{Option, Some, None, Ok, Err, is_some, nat_le, nat_lt, bytes_eq, flat_map, sum_by, All}
+use Rattle.std.proofs.Common.{◌≡◌, ℕ, ◌+◌, ◌≤◌, Bool, true, false, List, [], ◌∷◌, ◌++◌, length, map, refl, ap, sym, ◌∙◌, subst, append_assoc, append-nil, add-zero, add_assoc, length-append, arith, if◌then◌else◌}
+use Rattle.std.specs.Prelude.{Option, Some, None, Ok, is_some, nat_le, nat_lt, bytes_eq, flat_map, sum_by}
 use Rattle.std.specs.List.{AllByRecursion}
 use Rattle.std.proofs.lemmas.Bool.{leb-true, le-leb, ltb-true, lt-ltb}
 use Rattle.std.proofs.lemmas.List.{map-append}
@@ -12,12 +12,12 @@ use Rattle.hx_tree.specs.Tree as tree
 use Rattle.hx_tree.specs.World.{Map, look_up}
 use Rattle.hx_tree.specs.Meaning.{item_functions}
 use Rattle.hx_tree.specs.Accepted.{Kind, kind_of_shape, item_kinds, is_among, shape_words, item_words, AcceptsConstant, AcceptsShape}
-use Rattle.hx_check.specs.declared.error.CheckError.TheVariants.{DoubledName, LimitPassed}
+use Rattle.hx_check.specs.declared.error.CheckError.TheVariants.{LimitPassed}
 use Rattle.hx_check.specs.declared.symbol.Symbol.{Symbol}
 use Rattle.hx_check.specs.declared.symbol.Symbol.TheVariants as symbol
 use Rattle.hx_check.specs.Symbols.{Declared, symbol_at, global_symbols, item_symbols, items_symbols}
-use Rattle.hx_check.specs.Reading.{Checks, ◌>>=◌, unless, check_free, constants_fit, shape_fits, declare_global, declare_function, declare_globals, declare_item, declare_items}
-use Rattle.hx_check.proofs.Steps.{bind_ok, bind_at, if_ok, if_at, else_ok, else_at, same_ok}
+use Rattle.hx_check.specs.Reading.{unless, check_free, constants_fit, shape_fits, declare_global, declare_globals, declare_item, declare_items}
+use Rattle.hx_check.proofs.Steps.{bind_ok, bind_at, else_ok, else_at, same_ok}
 use Rattle.hx_check.proofs.WhatIsNamed.{kind_of_symbol, kinds}
 use Rattle.hx_check.proofs.Assignments.{unless_at, unless_ok}
 use Rattle.hx_check.proofs.Distinct.{Fresh, fresh_append, fresh_first, fresh_second}
@@ -65,8 +65,8 @@ shape_at (tree.Scalar None) h = refl
 shape_at (tree.Scalar (Some c)) h = le-leb c.number CONSTANT_LIMIT h
 shape_at (tree.Array n cs) h =
     join (nat_le 1 n) _ (le-leb 1 n h.0)
-        (join (nat_le n ARRAY_LIMIT) _ (le-leb n ARRAY_LIMIT h.1)
-            (join (nat_le (length cs) n) _ (le-leb (length cs) n h.2) (constants_at cs (recursion_from_All AcceptsConstant cs h.3))))
+    (join (nat_le n ARRAY_LIMIT) _ (le-leb n ARRAY_LIMIT h.1)
+    (join (nat_le (length cs) n) _ (le-leb (length cs) n h.2) (constants_at cs (recursion_from_All AcceptsConstant cs h.3))))
 
 shape_known : (s : tree.Shape) → shape_fits s ≡ true → AcceptsShape s
 shape_known (tree.Scalar None) h = tt
@@ -85,17 +85,18 @@ after_global g d = record { symbols = d.symbols ++ (g.name.text, symbol_at g.sha
 complete_global : (g : tree.GlobalDecl) (d : Declared) → is_among g.name.text (names_in d.symbols) ≡ false → AcceptsShape g.shape → d.words + shape_words g.shape ≤ GLOBAL_LIMIT → declare_global g d ≡ Ok (after_global g d)
 complete_global g d free fits room =
     bind_at _ _ _ _ (free_at g.name d free)
-        (bind_at _ _ _ _ (unless_at (shape_fits g.shape) (LimitPassed g.name.pos) (shape_at g.shape fits))
-            (bind_at _ _ _ _ (unless_at (nat_le (d.words + shape_words g.shape) GLOBAL_LIMIT) (LimitPassed g.name.pos) (le-leb (d.words + shape_words g.shape) GLOBAL_LIMIT room)) refl))
+    (bind_at _ _ _ _ (unless_at (shape_fits g.shape) (LimitPassed g.name.pos) (shape_at g.shape fits))
+    (bind_at _ _ _ _ (unless_at (nat_le (d.words + shape_words g.shape) GLOBAL_LIMIT) (LimitPassed g.name.pos) (le-leb (d.words + shape_words g.shape) GLOBAL_LIMIT room)) refl))
 
 sound_global : (g : tree.GlobalDecl) (d r : Declared) → declare_global g d ≡ Ok r → (is_among g.name.text (names_in d.symbols) ≡ false) × AcceptsShape g.shape × (d.words + shape_words g.shape ≤ GLOBAL_LIMIT)
 sound_global g d r h =
     let a = bind_ok (check_free g.name d) _ r h in
     let b = bind_ok (unless (shape_fits g.shape) (LimitPassed g.name.pos)) _ r a.2 in
-    let c = bind_ok (unless (nat_le (d.words + shape_words g.shape) GLOBAL_LIMIT) (LimitPassed g.name.pos)) _ r b.2 in
-    (free_known g.name d a.0 a.1
-    , shape_known g.shape (unless_ok (shape_fits g.shape) (LimitPassed g.name.pos) b.0 b.1)
-    , leb-true (d.words + shape_words g.shape) GLOBAL_LIMIT (unless_ok (nat_le (d.words + shape_words g.shape) GLOBAL_LIMIT) (LimitPassed g.name.pos) c.0 c.1))
+    let c = bind_ok (unless (nat_le (d.words + shape_words g.shape) GLOBAL_LIMIT) (LimitPassed g.name.pos)) _ r b.2 in (
+      free_known g.name d a.0 a.1,
+      shape_known g.shape (unless_ok (shape_fits g.shape) (LimitPassed g.name.pos) b.0 b.1),
+      leb-true (d.words + shape_words g.shape) GLOBAL_LIMIT (unless_ok (nat_le (d.words + shape_words g.shape) GLOBAL_LIMIT) (LimitPassed g.name.pos) c.0 c.1),
+    )
 
 -- ---- a declaration of globals
 
@@ -124,9 +125,9 @@ complete_globals (g ∷ gs) d fresh fits room =
     let n = shape_words g.shape in
     let later = subst (λ (l : List (List ℕ)). Fresh l (global_names gs)) (sym (names-push d.symbols g.name.text (symbol_at g.shape d.words))) fresh.1 in
     bind_at _ _ _ _ (complete_global g d fresh.0 fits.0 (omega arith))
-        (complete_globals gs (after_global g d) later fits.1 (omega arith)
-        ∙ ap (λ l. Ok (record { symbols = l; words = (d.words + n) + words_of gs; functions = d.functions })) (append_assoc d.symbols (s ∷ []) (global_symbols gs (d.words + n)))
-        ∙ ap (λ m. Ok (record { symbols = d.symbols ++ global_symbols (g ∷ gs) d.words; words = m; functions = d.functions })) (add_assoc d.words n (words_of gs) ∙ ap (λ k. d.words + k) (sym sum)))
+    (complete_globals gs (after_global g d) later fits.1 (omega arith)
+    ∙ ap (λ l. Ok (record { symbols = l; words = (d.words + n) + words_of gs; functions = d.functions })) (append_assoc d.symbols (s ∷ []) (global_symbols gs (d.words + n)))
+    ∙ ap (λ m. Ok (record { symbols = d.symbols ++ global_symbols (g ∷ gs) d.words; words = m; functions = d.functions })) (add_assoc d.words n (words_of gs) ∙ ap (λ k. d.words + k) (sym sum)))
 
 sound_globals : (gs : List tree.GlobalDecl) (d r : Declared) → d.words ≤ GLOBAL_LIMIT → declare_globals gs d ≡ Ok r → Fresh (names_in d.symbols) (global_names gs) × Shapes gs × (d.words + words_of gs ≤ GLOBAL_LIMIT)
 sound_globals [] d r low h = (tt, tt, omega arith)
@@ -136,10 +137,11 @@ sound_globals (g ∷ gs) d r low h =
     let here = sound_global g d a.0 a.1 in
     let same = same_ok (declare_global g d) a.0 (after_global g d) a.1 (complete_global g d here.0 here.1 here.2) in
     let go = subst (λ (d' : Declared). declare_globals gs d' ≡ Ok r) same a.2 in
-    let rest = sound_globals gs (after_global g d) r here.2 go in
-    ((here.0, subst (λ (l : List (List ℕ)). Fresh l (global_names gs)) (names-push d.symbols g.name.text (symbol_at g.shape d.words)) rest.0)
-    , (here.1, rest.1)
-    , (let room : (d.words + shape_words g.shape) + words_of gs ≤ GLOBAL_LIMIT = rest.2 in omega arith))
+    let rest = sound_globals gs (after_global g d) r here.2 go in (
+      (here.0, subst (λ (l : List (List ℕ)). Fresh l (global_names gs)) (names-push d.symbols g.name.text (symbol_at g.shape d.words)) rest.0),
+      (here.1, rest.1),
+      (let room : (d.words + shape_words g.shape) + words_of gs ≤ GLOBAL_LIMIT = rest.2 in omega arith),
+    )
 
 -- ---- items
 
@@ -174,9 +176,9 @@ complete_item (tree.Globals gs) d fresh fits words functions =
 complete_item (tree.Function f) d fresh fits words functions =
     let symbols = d.symbols ++ (f.name.text, symbol.Function d.functions f.returns (length (tree.param_names f.params))) ∷ [] in
     bind_at _ _ _ _ (free_at f.name d fresh.0)
-        (bind_at _ _ _ _ (unless_at (nat_lt d.functions FUNCTION_LIMIT) (LimitPassed f.name.pos) (lt-ltb d.functions FUNCTION_LIMIT (omega arith)))
-            (bind_at _ _ _ _ (unless_at (nat_le (length (tree.param_names f.params)) PARAMETER_LIMIT) (LimitPassed f.name.pos) (le-leb (length (tree.param_names f.params)) PARAMETER_LIMIT fits))
-                (ap (λ n. Ok (record { symbols = symbols; words = n; functions = d.functions + 1 })) (sym (add-zero d.words)))))
+    (bind_at _ _ _ _ (unless_at (nat_lt d.functions FUNCTION_LIMIT) (LimitPassed f.name.pos) (lt-ltb d.functions FUNCTION_LIMIT (omega arith)))
+    (bind_at _ _ _ _ (unless_at (nat_le (length (tree.param_names f.params)) PARAMETER_LIMIT) (LimitPassed f.name.pos) (le-leb (length (tree.param_names f.params)) PARAMETER_LIMIT fits))
+    (ap (λ n. Ok (record { symbols = symbols; words = n; functions = d.functions + 1 })) (sym (add-zero d.words)))))
 
 sound_item : (i : tree.Item) (d r : Declared) → d.words ≤ GLOBAL_LIMIT → d.functions ≤ FUNCTION_LIMIT → declare_item i d ≡ Ok r → Fresh (names_in d.symbols) (item_names i) × ItemFits i × (d.words + item_words i ≤ GLOBAL_LIMIT) × (d.functions + length (item_functions i) ≤ FUNCTION_LIMIT)
 sound_item (tree.Globals gs) d r low few h = let a = sound_globals gs d r low h in (a.0, a.1, a.2, omega arith)
@@ -184,11 +186,12 @@ sound_item (tree.Function f) d r low few h =
     let a = bind_ok (check_free f.name d) _ r h in
     let b = bind_ok (unless (nat_lt d.functions FUNCTION_LIMIT) (LimitPassed f.name.pos)) _ r a.2 in
     let c = bind_ok (unless (nat_le (length (tree.param_names f.params)) PARAMETER_LIMIT) (LimitPassed f.name.pos)) _ r b.2 in
-    let room = ltb-true d.functions FUNCTION_LIMIT (unless_ok (nat_lt d.functions FUNCTION_LIMIT) (LimitPassed f.name.pos) b.0 b.1) in
-    ((free_known f.name d a.0 a.1, tt)
-    , leb-true (length (tree.param_names f.params)) PARAMETER_LIMIT (unless_ok (nat_le (length (tree.param_names f.params)) PARAMETER_LIMIT) (LimitPassed f.name.pos) c.0 c.1)
-    , omega arith
-    , omega arith)
+    let room = ltb-true d.functions FUNCTION_LIMIT (unless_ok (nat_lt d.functions FUNCTION_LIMIT) (LimitPassed f.name.pos) b.0 b.1) in (
+      (free_known f.name d a.0 a.1, tt),
+      leb-true (length (tree.param_names f.params)) PARAMETER_LIMIT (unless_ok (nat_le (length (tree.param_names f.params)) PARAMETER_LIMIT) (LimitPassed f.name.pos) c.0 c.1),
+      omega arith,
+      omega arith,
+    )
 
 -- ---- all items
 
@@ -230,12 +233,12 @@ complete_items (i ∷ is) d h =
     } in
     let total : (d.functions + n) + functions_in is ≡ d.functions + functions_in (i ∷ is) = omega arith in
     bind_at _ _ _ _ (complete_item i d (fresh_first (names_in d.symbols) (item_names i) (names_of is) h.fresh) h.fits.0 (omega arith) (omega arith))
-        (complete_items is (after_item i d) later
-        ∙ ap (λ l. Ok (record { symbols = l; words = (d.words + item_words i) + sum_by item_words is; functions = (d.functions + n) + functions_in is }))
-            (append_assoc d.symbols (item_symbols i d.words d.functions) (items_symbols is (d.words + item_words i) (d.functions + n)))
-        ∙ ap (λ m. Ok (record { symbols = d.symbols ++ items_symbols (i ∷ is) d.words d.functions; words = m; functions = (d.functions + n) + functions_in is }))
-            (add_assoc d.words (item_words i) (sum_by item_words is) ∙ ap (λ k. d.words + k) (sym sum))
-        ∙ ap (λ m. Ok (record { symbols = d.symbols ++ items_symbols (i ∷ is) d.words d.functions; words = d.words + sum_by item_words (i ∷ is); functions = m })) total)
+    (complete_items is (after_item i d) later
+    ∙ ap (λ l. Ok (record { symbols = l; words = (d.words + item_words i) + sum_by item_words is; functions = (d.functions + n) + functions_in is }))
+    (append_assoc d.symbols (item_symbols i d.words d.functions) (items_symbols is (d.words + item_words i) (d.functions + n)))
+    ∙ ap (λ m. Ok (record { symbols = d.symbols ++ items_symbols (i ∷ is) d.words d.functions; words = m; functions = (d.functions + n) + functions_in is }))
+    (add_assoc d.words (item_words i) (sum_by item_words is) ∙ ap (λ k. d.words + k) (sym sum))
+    ∙ ap (λ m. Ok (record { symbols = d.symbols ++ items_symbols (i ∷ is) d.words d.functions; words = d.words + sum_by item_words (i ∷ is); functions = m })) total)
 
 pub sound_items : (is : List tree.Item) (d r : Declared) → d.words ≤ GLOBAL_LIMIT → d.functions ≤ FUNCTION_LIMIT → declare_items is d ≡ Ok r → Fit is d
 sound_items [] d r low few h = record { fresh = tt; fits = tt; words = omega arith; functions = omega arith }

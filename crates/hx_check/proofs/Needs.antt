@@ -1,15 +1,14 @@
 -- Measures of nodes that hold a list of nodes, and measures told up to a limit.
-use Rattle.std.proofs.Common.{Global, ◌≡◌, ℕ, ◌+◌, ◌≤◌, min, max, map, refl, ap, ◌∙◌, arith}
+use Rattle.std.proofs.Common.{Global, ◌≡◌, ℕ, ◌+◌, ◌≤◌, min, max, map, ap, ◌∙◌, arith}
 use Rattle.std.specs.Prelude.{Vec}
 use Rattle.hx_tree.specs.declared.tree.Name.{Name}
-use Rattle.hx_tree.specs.declared.tree.BinaryOp.TheVariants.{Strict, And, Or}
 use Rattle.hx_tree.specs.declared.tree.Expr as code
 use Rattle.hx_tree.specs.declared.tree.Expr.TheVariants as expr
 use Rattle.hx_tree.specs.declared.tree.Part as code_part
 use Rattle.hx_tree.specs.declared.tree.Stmt as code_stmt
 use Rattle.hx_tree.specs.declared.tree.Stmt.TheVariants as stmt
 use Rattle.hx_tree.specs.Tree as tree
-use Rattle.hx_tree.specs.View.{name_of, expr_of, part_of, stmt_of}
+use Rattle.hx_tree.specs.View.{expr_of, part_of, stmt_of}
 use Rattle.hx_tree.specs.Height.{height, heights, assignment_height, stmt_height, parts_height}
 use Rattle.hx_tree.specs.Need.{need, needs, set_need, update_need, stmt_need, parts_need}
 use Rattle.hx_tree.specs.Accepted.{stmt_locals, parts_locals}

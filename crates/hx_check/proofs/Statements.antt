@@ -1,22 +1,21 @@
 -- The checks of statements are right exactly where they are accepted, give them resolved, and leave the scopes as they were.
-use Rattle.std.proofs.Common.{◌≡◌, ℕ, ◌+◌, ◌≤◌, Bool, true, false, List, [], ◌∷◌, ◌++◌, length, drop, map, refl, ap, sym, ◌∙◌, subst, append_assoc, append-nil, add-zero, add_assoc, arith}
-use Rattle.std.specs.Prelude.{Option, Some, None, Ok, Err, option_map}
+use Rattle.std.proofs.Common.{◌≡◌, ℕ, ◌+◌, ◌≤◌, false, List, [], ◌∷◌, ◌++◌, drop, map, refl, ap, sym, ◌∙◌, subst, append_assoc, append-nil, add-zero, add_assoc, arith}
+use Rattle.std.specs.Prelude.{Ok}
 use Rattle.hx_tree.specs.declared.limits.TheConstants.{PRIVATE_LIMIT}
-use Rattle.hx_tree.specs.declared.tree.Returns.{Returns}
 use Rattle.hx_tree.specs.Tree as tree
 use Rattle.hx_tree.specs.World.{Map, look_up}
-use Rattle.hx_tree.specs.Accepted.{Surroundings, AcceptsExpr, AcceptsExprs, AcceptsAssignment, AcceptsStmt, AcceptsPart, AcceptsParts, IfThere, count, after_init, after_part, inside_loop, init_locals, stmt_locals, part_locals, parts_locals}
+use Rattle.hx_tree.specs.Accepted.{Surroundings, AcceptsExpr, AcceptsAssignment, AcceptsStmt, AcceptsPart, AcceptsParts, IfThere, count, after_init, after_part, inside_loop, init_locals, stmt_locals, part_locals, parts_locals}
 use Rattle.hx_check.specs.declared.here.Here.{Here}
 use Rattle.hx_check.specs.declared.symbol.Symbol.{Symbol}
-use Rattle.hx_check.specs.Resolved.{Expr, Number, exprs, Assignment, Simple, Assign, Clauses, Stmt, Block, Do, CallStatement, Print, Emit, If, IfElse, Loop, Break, Continue, Return, Stmts, no_stmts, stmt_and, stmts}
+use Rattle.hx_check.specs.Resolved.{Simple, Assign, Stmt, Block, Do, CallStatement, Print, Emit, IfElse, Break, Continue, Return, Stmts, no_stmts, stmt_and, stmts}
 use Rattle.hx_check.specs.Symbols.{Known, Scopes, private_word, with_word, with_words, words_after_init}
-use Rattle.hx_check.specs.Resolve.{Around, resolve_expr, resolve_exprs, resolve_assignment, resolve_locals, resolve_init, resolve_stmt, resolve_part_then, resolve_parts, simples_then, words_after_part, function_at, expr_or_zero, while_clauses}
+use Rattle.hx_check.specs.Resolve.{Around, resolve_expr, resolve_exprs, resolve_assignment, resolve_locals, resolve_stmt, resolve_part_then, resolve_parts, simples_then, words_after_part, function_at, expr_or_zero}
 use Rattle.hx_check.specs.Reading as reading
 use Rattle.hx_check.specs.Reading.{Checks, ◌>>=◌, unless, check_expr, check_exprs, check_assignment, check_test, check_step, check_callee, check_locals, check_init, check_return, check_stmt, check_part, check_parts, in_scope, out_of_scope, make_loop}
 use Rattle.hx_check.specs.declared.error.CheckError.TheVariants.{OutsideLoop}
 use Rattle.hx_check.proofs.Steps.{bind_ok, bind_at, same_ok}
 use Rattle.hx_check.proofs.WhatIsNamed.{surroundings, kind_is, call_at, call_known}
-use Rattle.hx_check.proofs.Expressions.{complete, complete_all, sound, sound_all, list_of, exprs-list}
+use Rattle.hx_check.proofs.Expressions.{complete, complete_all, sound, sound_all, exprs-list}
 use Rattle.hx_check.proofs.Assignments.{at, complete_assignment, sound_assignment, complete_test, sound_test, complete_step, sound_step, complete_return, sound_return, unless_at, unless_ok, with_locals_is, after_init_is, complete_locals, sound_locals, complete_init, sound_init}
 
 -- where a resolved statement stands
@@ -83,17 +82,17 @@ mutual
   complete_stmt (tree.Block ps) symbols here scopes k room h =
       let r = resolve_parts ps (around symbols here) ([] ∷ scopes) k in
       bind_at _ _ _ _ (complete_parts ps symbols here ([] ∷ scopes) k [] room h)
-          (ap (λ ss. Ok (Block ss, at (drop 1 (words_after ps ([] ∷ scopes) k)) (k + parts_locals ps))) (stmts-list r)
-          ∙ ap (λ sc. Ok (Block r, at sc (k + parts_locals ps))) (outer_after ps ([] ∷ scopes) k))
+      (ap (λ ss. Ok (Block ss, at (drop 1 (words_after ps ([] ∷ scopes) k)) (k + parts_locals ps))) (stmts-list r)
+      ∙ ap (λ sc. Ok (Block r, at sc (k + parts_locals ps))) (outer_after ps ([] ∷ scopes) k))
   complete_stmt tree.Empty symbols here scopes k room h = ap (λ n. Ok (Block no_stmts, at scopes n)) (sym (add-zero k))
   complete_stmt (tree.Assign a) symbols here scopes k room h =
       bind_at _ _ _ _ (complete_assignment a symbols here scopes h)
-          (ap (λ n. Ok (Do (Assign (resolve_assignment a symbols scopes)), at scopes n)) (sym (add-zero k)))
+      (ap (λ n. Ok (Do (Assign (resolve_assignment a symbols scopes)), at scopes n)) (sym (add-zero k)))
   complete_stmt (tree.CallStatement f es) symbols here scopes k room h =
       bind_at _ _ _ _ (call_at f (count es) h.0.0 (private_word scopes f.text) (look_up symbols f.text) (sym (kind_is f symbols here scopes) ∙ h.0.1))
-          (bind_at _ _ _ _ (complete_all es symbols here scopes [] h.1)
-              (ap (λ es'. Ok (CallStatement (function_at f symbols) f.pos es', at scopes k)) (exprs-list (resolve_exprs es symbols scopes))
-              ∙ ap (λ n. Ok (CallStatement (function_at f symbols) f.pos (resolve_exprs es symbols scopes), at scopes n)) (sym (add-zero k))))
+      (bind_at _ _ _ _ (complete_all es symbols here scopes [] h.1)
+      (ap (λ es'. Ok (CallStatement (function_at f symbols) f.pos es', at scopes k)) (exprs-list (resolve_exprs es symbols scopes))
+      ∙ ap (λ n. Ok (CallStatement (function_at f symbols) f.pos (resolve_exprs es symbols scopes), at scopes n)) (sym (add-zero k))))
   complete_stmt (tree.Print pos e) symbols here scopes k room h =
       bind_at _ _ _ _ (complete e symbols here scopes h) (ap (λ n. Ok (Print pos (resolve_expr e symbols scopes), at scopes n)) (sym (add-zero k)))
   complete_stmt (tree.Emit pos e) symbols here scopes k room h =
@@ -103,13 +102,13 @@ mutual
   complete_stmt (tree.IfElse test s other) symbols here scopes k room h =
       let a = around symbols here in
       bind_at _ _ _ _ (complete test symbols here scopes h.0)
-          (bind_at _ _ _ _ (complete_stmt s symbols here scopes k (omega arith) h.1)
-              (bind_at _ _ _ _ (complete_stmt other symbols here scopes (k + stmt_locals s) (omega arith) h.2)
-                  (ap (λ n. Ok (IfElse (resolve_expr test symbols scopes) (resolve_stmt s a scopes k) (resolve_stmt other a scopes (k + stmt_locals s)), at scopes n))
-                      (add_assoc k (stmt_locals s) (stmt_locals other)))))
+      (bind_at _ _ _ _ (complete_stmt s symbols here scopes k (omega arith) h.1)
+      (bind_at _ _ _ _ (complete_stmt other symbols here scopes (k + stmt_locals s) (omega arith) h.2)
+      (ap (λ n. Ok (IfElse (resolve_expr test symbols scopes) (resolve_stmt s a scopes k) (resolve_stmt other a scopes (k + stmt_locals s)), at scopes n))
+      (add_assoc k (stmt_locals s) (stmt_locals other)))))
   complete_stmt (tree.While marked test s) symbols here scopes k room h =
       bind_at _ _ _ _ (complete test symbols here scopes h.0)
-          (bind_at _ _ _ _ (complete_stmt s symbols (reading.inside marked here) scopes k room h.1) refl)
+      (bind_at _ _ _ _ (complete_stmt s symbols (reading.inside marked here) scopes k room h.1) refl)
   complete_stmt (tree.For marked f s) symbols here scopes k room h =
       let a = around symbols here in
       let inner : Scopes = words_after_init f.init ([] ∷ scopes) k in
@@ -117,18 +116,18 @@ mutual
       let rest : Rest (surroundings symbols here inner) = subst Rest (after_init_is f.init symbols here ([] ∷ scopes) k) (h.1, h.2, h.3) in
       let r = resolve_stmt (tree.For marked f s) a scopes k in
       bind_at _ _ _ _ (complete_init f.init symbols here ([] ∷ scopes) k (omega arith) h.0)
-          (bind_at _ _ _ _ (complete_test f.test symbols here inner rest.0)
-              (bind_at _ _ _ _ (complete_step f.step symbols here inner rest.1)
-                  (bind_at _ _ _ _ (complete_stmt s symbols (reading.inside marked here) inner (k + init_locals f.init) (omega arith) rest.2)
-                      (ap (λ sc. Ok (r, at sc ((k + init_locals f.init) + stmt_locals s))) (outer_after_init f.init ([] ∷ scopes) k)
-                      ∙ ap (λ n. Ok (r, at scopes n)) (add_assoc k (init_locals f.init) (stmt_locals s))))))
+      (bind_at _ _ _ _ (complete_test f.test symbols here inner rest.0)
+      (bind_at _ _ _ _ (complete_step f.step symbols here inner rest.1)
+      (bind_at _ _ _ _ (complete_stmt s symbols (reading.inside marked here) inner (k + init_locals f.init) (omega arith) rest.2)
+      (ap (λ sc. Ok (r, at sc ((k + init_locals f.init) + stmt_locals s))) (outer_after_init f.init ([] ∷ scopes) k)
+      ∙ ap (λ n. Ok (r, at scopes n)) (add_assoc k (init_locals f.init) (stmt_locals s))))))
   complete_stmt (tree.Break pos) symbols here scopes k room h =
       bind_at _ _ _ _ (unless_at here.in_loop (OutsideLoop pos) h) (ap (λ n. Ok (Break, at scopes n)) (sym (add-zero k)))
   complete_stmt (tree.Continue pos) symbols here scopes k room h =
       bind_at _ _ _ _ (unless_at here.in_loop (OutsideLoop pos) h) (ap (λ n. Ok (Continue, at scopes n)) (sym (add-zero k)))
   complete_stmt (tree.Return pos e) symbols here scopes k room h =
       bind_at _ _ _ _ (complete_return pos here.returns e symbols here scopes h)
-          (ap (λ n. Ok (Return (expr_or_zero e symbols scopes), at scopes n)) (sym (add-zero k)))
+      (ap (λ n. Ok (Return (expr_or_zero e symbols scopes), at scopes n)) (sym (add-zero k)))
 
   pub complete_part : (p : tree.Part) (symbols : Map Symbol) (here : Here) (scopes : Scopes) (k : ℕ) (done : List Stmt) → k + part_locals p ≤ PRIVATE_LIMIT → AcceptsPart p (surroundings symbols here scopes) → check_part p symbols here (at scopes k) done ≡ Ok (done ++ part_list p (around symbols here) scopes k, at (words_after_part p scopes k) (k + part_locals p))
   complete_part (tree.Locals ds) symbols here scopes k done room h = bind_at _ _ _ _ (complete_locals ds symbols here scopes k [] room h) refl
@@ -144,10 +143,10 @@ mutual
       let rest = resolve_parts ps a inner n in
       let accepted = subst (λ (su : Surroundings). AcceptsParts ps su) (after_part_is p symbols here scopes k) h.1 in
       bind_at _ _ _ _ (complete_part p symbols here scopes k done (omega arith) h.0)
-          (complete_parts ps symbols here inner n (done ++ part_list p a scopes k) (omega arith) accepted
-          ∙ ap (λ l. Ok (l, at (words_after ps inner n) (n + parts_locals ps)))
-              (append_assoc done (part_list p a scopes k) (list_of_stmts rest) ∙ ap (λ l. done ++ l) (part-list p a scopes k rest))
-          ∙ ap (λ m. Ok (done ++ list_of_stmts (resolve_part_then p a scopes k rest), at (words_after ps inner n) m)) (add_assoc k (part_locals p) (parts_locals ps)))
+      (complete_parts ps symbols here inner n (done ++ part_list p a scopes k) (omega arith) accepted
+      ∙ ap (λ l. Ok (l, at (words_after ps inner n) (n + parts_locals ps)))
+      (append_assoc done (part_list p a scopes k) (list_of_stmts rest) ∙ ap (λ l. done ++ l) (part-list p a scopes k rest))
+      ∙ ap (λ m. Ok (done ++ list_of_stmts (resolve_part_then p a scopes k rest), at (words_after ps inner n) m)) (add_assoc k (part_locals p) (parts_locals ps)))
 
 -- ---- what is right is accepted
 
@@ -196,7 +195,7 @@ mutual
       let body = subst (λ (known : Known). check_stmt s symbols (reading.inside marked here) known ≡ Ok d.0) same d.1 in
       let Rest : Surroundings → Type 0 = λ su. IfThere AcceptsExpr f.test su × IfThere AcceptsAssignment f.step su × AcceptsStmt s (inside_loop su) in
       let inside : Rest (surroundings symbols here inner) =
-          (sound_test f.test symbols here inner b.0 test, sound_step f.step symbols here inner c.0 step, sound_stmt s symbols (reading.inside marked here) inner n d.0 (omega arith) body) in
+      (sound_test f.test symbols here inner b.0 test, sound_step f.step symbols here inner c.0 step, sound_stmt s symbols (reading.inside marked here) inner n d.0 (omega arith) body) in
       let rest : Rest (after_init f.init (surroundings symbols here ([] ∷ scopes))) = subst Rest (sym (after_init_is f.init symbols here ([] ∷ scopes) k)) inside in
       (first, rest.0, rest.1, rest.2)
   sound_stmt (tree.Break pos) symbols here scopes k r room h =

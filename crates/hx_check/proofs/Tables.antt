@@ -1,5 +1,5 @@
 -- A table's look-up and its insertion, by the list of names and symbols.
-use Rattle.std.proofs.Common.{◌≡◌, ℕ, map, Bool, true, false, cond, List, [], ◌∷◌, ◌++◌, Option, None, Some, refl, ap, ◌∙◌, sym, nat_eq}
+use Rattle.std.proofs.Common.{◌≡◌, ℕ, map, cond, List, [], ◌∷◌, ◌++◌, None, Some, refl, ap, ◌∙◌, sym, nat_eq}
 use Rattle.std.specs.declared.vec.Vec.{Vec}
 use Rattle.std.specs.Str.{bytes_eq}
 use Rattle.std.specs.Map.{lookup}
@@ -9,7 +9,7 @@ use Rattle.std.proofs.lemmas.Slice.Eq.{bytes_eq-Decides}
 use Rattle.std.proofs.lemmas.Bool.Decides.{same_from_decides, Decides-like}
 use Rattle.indexmap.specs.IndexMap.{IndexMap, get, insert_entry}
 use Rattle.indexmap.proofs.CallerLemmas.{insert_entry-new}
-use Rattle.hx_tree.specs.World.{Map, look_up}
+use Rattle.hx_tree.specs.World.{look_up}
 use Rattle.hx_check.specs.declared.symbol.Symbol.{Symbol}
 use Rattle.hx_check.specs.Views.{pair_of}
 

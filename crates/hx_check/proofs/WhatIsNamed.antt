@@ -1,6 +1,6 @@
 -- What a name stands for is known exactly where it is accepted.
-use Rattle.std.proofs.Common.{◌≡◌, ℕ, Bool, true, false, List, [], ◌∷◌, refl, ap, sym, ◌∙◌, if◌then◌else◌, map, eqb}
-use Rattle.std.specs.Prelude.{Option, Some, None, Ok, Err, is_some, option_map, bytes_eq, nat_eq}
+use Rattle.std.proofs.Common.{◌≡◌, ℕ, Bool, true, false, List, [], ◌∷◌, refl, ap, ◌∙◌, if◌then◌else◌, map}
+use Rattle.std.specs.Prelude.{Option, Some, None, Ok, is_some, option_map, bytes_eq, nat_eq}
 use Rattle.std.proofs.lemmas.Bool.{eqb-true, eq-eqb}
 use Rattle.hx_tree.specs.declared.tree.Returns.{Returns}
 use Rattle.hx_tree.specs.declared.tree.Returns.TheVariants as returns
@@ -13,7 +13,7 @@ use Rattle.hx_check.specs.declared.symbol.Symbol.TheVariants as symbol
 use Rattle.hx_check.specs.declared.resolved.Words.{Words}
 use Rattle.hx_check.specs.Symbols.{Scopes, private_word}
 use Rattle.hx_check.specs.Resolve.{variable, to_variable, or_else, int_word, array_words, function_number, no_words}
-use Rattle.hx_check.specs.Reading.{Checks, ◌>>=◌, int_named, array_named, function_named, called_with, gives_value, read, write}
+use Rattle.hx_check.specs.Reading.{◌>>=◌, int_named, array_named, function_named, called_with, gives_value, read, write}
 use Rattle.hx_check.proofs.Steps.{if_ok, if_at}
 
 -- ---- what is known, as the definition of accepted trees has it

@@ -5,5 +5,6 @@ pub mod Symbols
 pub mod Resolve
 pub mod Measures
 pub mod Refusals
+pub mod Opening
 pub mod Reading
 pub mod Rows

@@ -10,7 +10,7 @@ use Rattle.hx_tree.specs.declared.tree.Operator.TheVariants.{Add, Sub}
 use Rattle.hx_tree.specs.Tree as tree
 use Rattle.hx_tree.specs.World.{Map, look_up}
 use Rattle.hx_tree.specs.Effect.{no_place}
-use Rattle.hx_tree.specs.Meaning.{functions_of, globals_of, opening_words}
+use Rattle.hx_tree.specs.Meaning.{globals_of, opening_words}
 use Rattle.hx_tree.specs.Need.{function_need}
 use Rattle.hx_tree.specs.Height.{program_height}
 use Rattle.hx_tree.specs.Accepted.{is_among, count, private_words, shape_words}
@@ -22,7 +22,7 @@ use Rattle.hx_check.specs.declared.names.Variable.TheVariants as variable
 use Rattle.hx_check.specs.declared.resolved.Words.{Words}
 use Rattle.hx_check.specs.declared.symbol.Symbol.{Symbol}
 use Rattle.hx_check.specs.declared.symbol.Symbol.TheVariants as symbol
-use Rattle.hx_check.specs.Resolved.{Expr, Number, Private, Word, Element, Call, Unary, Binary, Exprs, exprs, Place, ToPrivate, ToWord, ToElement, Assignment, Set, Update, Simple, Declare, Assign, Clauses, Stmt, Block, Do, CallStatement, Print, Emit, If, IfElse, Loop, Break, Continue, Return, no_stmts, stmts, Function, Program}
+use Rattle.hx_check.specs.Resolved.{Expr, Number, Private, Word, Element, Call, Unary, Binary, exprs, Place, ToPrivate, ToWord, ToElement, Assignment, Set, Update, Simple, Declare, Assign, Clauses, Stmt, Block, Do, CallStatement, Print, Emit, If, IfElse, Loop, Break, Continue, Return, no_stmts, stmts, Function, Program}
 use Rattle.hx_check.specs.Symbols.{Declared, Known, Scopes, private_word, with_word, symbol_at, is_in_scope, numbered}
 use Rattle.hx_check.specs.Resolve.{int_word, array_words, kind_if, while_clauses}
 

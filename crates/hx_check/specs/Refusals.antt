@@ -25,3 +25,8 @@ place_of NoMain = None
 place_of (LimitPassed pos) = Some pos
 place_of TooLarge = None
 place_of Memory = None
+
+-- a refusal other than for memory means that this doesn't hold
+abbrev pub Refuses : CheckError → Type 0 → Type 0
+Refuses Memory Accepted = Unit {0}
+Refuses e Accepted = Accepted → ⊥

@@ -6,7 +6,7 @@ use Rattle.hx_tree.specs.declared.tree.Operator.TheVariants.{Add, Less}
 use Rattle.hx_tree.specs.Tree as tree
 use Rattle.hx_tree.specs.Effect.{no_place}
 use Rattle.hx_tree.specs.Rows.{at, named}
-use Rattle.hx_check.specs.Resolved.{Number, Private, Word, Element, Call, Binary, no_exprs, ToPrivate, ToWord, ToElement, Set, Update, Declare, Assign, Plain, IsRegion, Stmt, Do, Print, Block, Loop, Return, CallStatement, exprs, stmts, Program}
+use Rattle.hx_check.specs.Resolved.{Number, Private, Word, Call, Binary, ToPrivate, ToElement, Set, Update, Declare, Assign, Plain, IsRegion, Do, Print, Block, Loop, Return, CallStatement, exprs, stmts, Program}
 use Rattle.hx_check.specs.Resolve.{resolve}
 
 -- int main(){ int s=0; int k=3; pfor(int i=0;i<k;i++) s+=i; print(s); }

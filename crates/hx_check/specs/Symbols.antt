@@ -1,5 +1,5 @@
 -- What global names and locals stand for. ISO/IEC 9899:2011, 6.2.1 (scopes).
-use Rattle.std.specs.Prelude.{ℕ, ◌+◌, Bool, false, List, [], ◌∷◌, ◌++◌, length, Option, Some, None, is_some}
+use Rattle.std.specs.Prelude.{ℕ, ◌+◌, Bool, false, List, [], ◌∷◌, ◌++◌, length, Option, None, is_some}
 use Rattle.hx_tree.specs.Tree.{Name, LocalDecl, Init, NoInit, InitLocals, InitAssign, Shape, Scalar, Array, GlobalDecl, param_names, Item, Globals, Function, Program}
 use Rattle.hx_tree.specs.World.{Map, look_up, first_of}
 use Rattle.hx_tree.specs.Meaning.{item_functions}

@@ -6,7 +6,7 @@ use Rattle.hx_tree.specs.World.{Map}
 use Rattle.hx_check.specs.Resolved as resolved
 use Rattle.hx_check.specs.Symbols.{Declared, Scopes, Known}
 use Rattle.hx_check.specs.declared.symbol.Symbol.{Symbol}
-use Rattle.hx_check.specs.declared.symbol.Symbols.{Symbols}
+use Rattle.hx_check.specs.declared.table.Symbols.{Symbols}
 use Rattle.hx_check.specs.declared.resolved.Expr.{Expr, Row_of-Expr, end_of-Expr, more_of-Expr}
 use Rattle.hx_check.specs.declared.resolved.Expr.TheVariants as expr
 use Rattle.hx_check.specs.declared.resolved.Place.{Place}

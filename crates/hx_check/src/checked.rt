@@ -14,8 +14,8 @@ use std::marker::Model;
 /// the tree.
 #[derive(Drop)]
 pub struct Checked {
-    tree: tree::Program,
-    program: Program,
+    pub(crate) tree: tree::Program,
+    pub(crate) program: Program,
 }
 
 impl Model for Checked {

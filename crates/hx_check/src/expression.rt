@@ -11,7 +11,7 @@ use crate::locals::Scopes;
 use crate::make::call;
 use crate::names::{array_named, function_named, int_named};
 use crate::resolved::{Assignment, Expr, Place};
-use crate::symbol::Symbols;
+use crate::table::Symbols;
 use hx_tree::limits::CONSTANT_LIMIT;
 use hx_tree::token::Pos;
 use hx_tree::tree;

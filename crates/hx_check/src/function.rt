@@ -1,6 +1,7 @@
 // Functions, checked and resolved.
 
 ghost use Rattle.std.specs.Prelude.{◌≡◌, ◌≤◌, ◌+◌, [], ◌∷◌, map, length, IfOk};
+ghost use Rattle.hx_tree.specs.declared.limits.TheConstants.{PRIVATE_LIMIT};
 ghost use Rattle.hx_tree.specs.View.{name_of, func_of, item_of};
 ghost use Rattle.hx_tree.specs.Meaning.{texts_of};
 ghost use Rattle.hx_tree.specs.Accepted.{is_among};
@@ -16,7 +17,7 @@ use crate::need::function_need;
 use crate::privates::private_words;
 use crate::resolved::Function;
 use crate::statement::statements;
-use crate::symbol::Symbols;
+use crate::table::Symbols;
 use hx_tree::tree::{Func, Item, Name};
 use std::alloc::{AllocError, Global};
 
@@ -45,7 +46,7 @@ fn check_distinct(names: &[Name]) -> Result<(), CheckError>
 
 /// The scope of these parameters, whose private words are counted from `first`.
 fn numbered(alloc: Global, names: &[Name], first: u32) -> Result<Scope, AllocError>
-    requires { first + length names.now ≤ 64 }
+    requires { first + length names.now ≤ PRIVATE_LIMIT }
     ensures { IfOk result (λ s. scope_of s ≡ numbered (map name_of names.now) first) }
 {
     match names {
@@ -60,7 +61,7 @@ fn numbered(alloc: Global, names: &[Name], first: u32) -> Result<Scope, AllocErr
 
 /// What is known where a function begins.
 fn with_parameters(alloc: Global, names: &[Name]) -> Result<Locals, AllocError>
-    requires { length names.now ≤ 64 }
+    requires { length names.now ≤ PRIVATE_LIMIT }
     ensures { IfOk result (λ l. known_of l ≡ with_parameters (map name_of names.now)) }
 {
     let scope = numbered(alloc, names, 0)?;

@@ -6,7 +6,9 @@ ghost use Rattle.hx_tree.specs.View.{expr_of, place_of, assignment_of, local_of,
 ghost use Rattle.hx_tree.specs.Height as spec;
 ghost use Rattle.hx_check.specs.Measures.{greatest_value};
 
-use hx_tree::tree::{Assignment, Expr, ForClauses, Init, Item, LocalDecl, Part, Place, Program, Stmt};
+use hx_tree::tree::{
+    Assignment, Expr, ForClauses, Init, Item, LocalDecl, Part, Place, Program, Stmt,
+};
 
 #[cycle(expression_height)]
 fn expr_fits(e: &Expr, room: u32) -> bool

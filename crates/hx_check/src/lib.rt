@@ -3,6 +3,7 @@
 #![tactic(auto)]
 
 mod carried;
+pub mod check;
 pub mod checked;
 mod declare;
 pub mod error;
@@ -14,7 +15,11 @@ mod locals;
 mod make;
 mod names;
 mod need;
+mod opening;
 mod privates;
 pub mod resolved;
 mod statement;
 pub mod symbol;
+mod table;
+#[cfg(test)]
+mod tests;

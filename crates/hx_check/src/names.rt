@@ -8,7 +8,8 @@ ghost use Rattle.hx_check.specs.Reading.{check_variable, check_array, check_call
 use crate::error::CheckError;
 use crate::locals::{Scopes, private_word};
 use crate::resolved::{Expr, Place, Words};
-use crate::symbol::{Symbol, Symbols};
+use crate::symbol::Symbol;
+use crate::table::Symbols;
 use hx_tree::tree::{Name, Returns};
 
 /// An int that can be read and assigned: a private word of the function, or a store word.

@@ -15,7 +15,7 @@ use crate::locals::{Locals, Scopes};
 use crate::make::block;
 use crate::names::function_named;
 use crate::resolved::{Clauses, Expr, LoopKind, Simple, Stmt};
-use crate::symbol::Symbols;
+use crate::table::Symbols;
 use hx_tree::token::Pos;
 use hx_tree::tree;
 use hx_tree::tree::{LocalDecl, Returns};

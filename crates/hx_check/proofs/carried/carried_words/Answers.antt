@@ -1,4 +1,4 @@
-use Rattle.std.proofs.Common.{◌≡◌, ℕ, Bool, true, false, sym, ◌∙◌, ap}
+use Rattle.std.proofs.Common.{ℕ, Bool, sym, ◌∙◌, ap}
 use Rattle.hx_check.specs.Views.{resolved_clauses, resolved_stmt}
 use Rattle.hx_check.specs.Carried.{is_carried}
 use Rattle.hx_check.proofs.Filters.{filter_kept, filter_left}
@@ -10,9 +10,9 @@ loop-k-preserved c =
     let p : ℕ → Bool = is_carried (resolved_clauses c.args.c.now) (resolved_stmt c.args.body.now) in
     elim c.if-is_carried.branch [
       | then-is_carried+in_ok-push w ↦
-        let h = filter_kept p c.loop-k.k c.loop-k.words.items (sym c.is_carried.ensures ∙ w.if-is_carried.true) c.loop-k.invariant in
-        ap (λ v. v.items) w.words-is ∙ w.in_ok-push.ensures.items ∙ h
+          let h = filter_kept p c.loop-k.k c.loop-k.words.items (sym c.is_carried.ensures ∙ w.if-is_carried.true) c.loop-k.invariant in
+          ap (λ v. v.items) w.words-is ∙ w.in_ok-push.ensures.items ∙ h
       | else-is_carried w ↦
-        let h = filter_left p c.loop-k.k c.loop-k.words.items (sym c.is_carried.ensures ∙ w.if-is_carried.false) c.loop-k.invariant in
-        ap (λ v. v.items) w.words-is ∙ h
+          let h = filter_left p c.loop-k.k c.loop-k.words.items (sym c.is_carried.ensures ∙ w.if-is_carried.false) c.loop-k.invariant in
+          ap (λ v. v.items) w.words-is ∙ h
     ]

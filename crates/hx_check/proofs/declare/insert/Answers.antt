@@ -1,6 +1,4 @@
-use Rattle.std.proofs.Common.{◌≡◌, None, rules, map}
-use Rattle.hx_tree.specs.World.{look_up}
-use Rattle.hx_check.specs.Views.{pair_of}
+use Rattle.std.proofs.Common.{◌≡◌, rules}
 use Rattle.hx_check.proofs.Tables.{entries-insert}
 use Rattle.hx_check.proofs.declare.insert.Goals as goal
 

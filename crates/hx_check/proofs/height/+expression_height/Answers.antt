@@ -1,8 +1,8 @@
-use Rattle.std.proofs.Common.{◌≡◌, ◌+◌, ◌≤◌, map, drop, arith, ap}
+use Rattle.std.proofs.Common.{map, arith, ap}
 use Rattle.std.proofs.lemmas.Bool.{false≢true}
 use Rattle.hx_tree.specs.Tree.{exprs}
 use Rattle.hx_tree.specs.View.{expr_of}
-use Rattle.hx_tree.specs.Height.{height, heights}
+use Rattle.hx_tree.specs.Height.{heights}
 use Rattle.hx_check.proofs.Needs.{height_positive, height_of_call}
 use Rattle.hx_check.proofs.height.+expression_height.Goals as goal
 

@@ -1,4 +1,4 @@
-use Rattle.std.proofs.Common.{◌≡◌, ◌≤◌, ◌↔◌, drop, map}
+use Rattle.std.proofs.Common.{◌≤◌, drop, map}
 use Rattle.hx_tree.specs.Tree.{exprs}
 use Rattle.hx_tree.specs.View.{expr_of}
 use Rattle.hx_tree.specs.Height.{heights}

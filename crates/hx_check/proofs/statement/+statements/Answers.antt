@@ -1,5 +1,4 @@
 use Rattle.std.proofs.Common.{rules}
-use Rattle.std.proofs.lemmas.Grind.{common_steps}
 use Rattle.hx_check.specs.Views.{symbols_in, known_of}
 use Rattle.hx_check.proofs.Calls.{block_at, call_statement_at}
 use Rattle.hx_check.proofs.statement.+statements.Goals as goal
