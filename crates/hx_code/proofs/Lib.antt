@@ -6,4 +6,4 @@ pub mod Numbers
 pub mod Calls
 pub mod Locals
 pub mod Regions
-pub mod Tests
+pub mod Validation

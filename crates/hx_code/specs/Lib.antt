@@ -7,5 +7,5 @@ pub mod Fits
 pub mod Calls
 pub mod Region
 pub mod Machine
-pub mod Tests
+pub mod Validation
 pub mod Rows

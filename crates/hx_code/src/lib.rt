@@ -1,13 +1,17 @@
-//! The words of the machine, the tables of its code, when code is valid, and the executor of what
-//! asks nothing of a store: every reader of the machine, plain or speculative, stands on it.
+//! The words of the machine, the tables beside them, when both are valid code, and the executor of
+//! what asks nothing of a store: every reader of the machine, plain or speculative, stands on it.
 #![tactic(auto)]
 
-pub mod call;
+mod call;
 pub mod code;
 pub mod local;
-pub mod number;
-pub mod operands;
-pub mod step;
+mod number;
+mod operands;
+mod step;
 pub mod table;
+#[cfg(test)]
+mod tests;
 pub mod validate;
 pub mod word;
+
+pub use call::Stretched;

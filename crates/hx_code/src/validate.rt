@@ -5,7 +5,7 @@ ghost use Rattle.std.specs.List.{All, AllByRecursion};
 ghost use Rattle.hx_code.specs.Valid.{IsSpot, IsRegionOrNone, HasSpots, IsSmallFunction, IsArrayOrNone, IsGlobalOrNone, IsMain, WithinLimits, IsPrivate, IsArray, NamesKnown, successors, StandsRight, EachWord, BeginsFunctions, BeginsRegion, EachRegion, CarriesWell, InFunction, AreDistinctBy, AreApart, privates_of, IsValid};
 ghost use Rattle.hx_code.specs.Valid.{pops as pops_of, pushes as pushes_of, parameters_of};
 ghost use Rattle.hx_code.specs.declared.table.Spot.{Spot};
-ghost use Rattle.hx_code.specs.Tests.{code_of, tables_of, IsLed, IsFine, AreOnlyEnters, HasTwoEnters, BeginsAt, EntersRegion, Reaches};
+ghost use Rattle.hx_code.specs.Validation.{code_of, tables_of, IsLed, IsFine, AreOnlyEnters, HasTwoEnters, BeginsAt, EntersRegion, Reaches};
 
 use crate::code::{Code, word_in};
 use crate::table::{Carried, Func, Region, Spot, Tables};

@@ -91,7 +91,7 @@ pub enum Ask {
 }
 
 /// Where a call goes on, and how many operands it has there, once it has what it asks.
-#[derive(Clone, Copy, PartialEq, Eq, Debug)]
+#[derive(Clone, Copy)]
 pub struct Next {
     pub place: u32,
     pub height: usize,

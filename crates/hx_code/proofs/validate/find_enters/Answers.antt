@@ -1,7 +1,7 @@
 use Rattle.std.proofs.Common.{◌≡◌, inl, inr, ◌+◌, arith, subst, sym, ap, ◌∙◌, length, length-set}
 use Rattle.std.proofs.lemmas.List.{get_or-replicate}
-use Rattle.hx_code.specs.Tests.{AreOnlyEnters}
-use Rattle.hx_code.proofs.Tests.{table_same, table_more, table_twice}
+use Rattle.hx_code.specs.Validation.{AreOnlyEnters}
+use Rattle.hx_code.proofs.Validation.{table_same, table_more, table_twice}
 use Rattle.hx_code.proofs.validate.find_enters.Goals as goal
 use Rattle.hx_code.proofs.validate.find_enters.Goals.{in-None, in-Some+else-places-index}
 

@@ -1,4 +1,4 @@
-use Rattle.hx_code.specs.Tests.{AreOnlyEnters}
+use Rattle.hx_code.specs.Validation.{AreOnlyEnters}
 use Rattle.hx_code.specs.declared.validate.TheConstants.{NOWHERE}
 use Rattle.hx_code.proofs.validate.find_enters.Given as goal
 

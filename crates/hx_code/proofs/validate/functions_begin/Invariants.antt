@@ -2,7 +2,7 @@ use Rattle.std.proofs.Common.{◌≡◌, ℕ, ◌<◌, Some, None}
 use Rattle.std.specs.Prelude.{slice_get}
 use Rattle.hx_code.specs.Code.{FuncView}
 use Rattle.hx_code.specs.Valid.{IsSpotAt}
-use Rattle.hx_code.specs.Tests.{tables_of}
+use Rattle.hx_code.specs.Validation.{tables_of}
 use Rattle.hx_code.proofs.validate.functions_begin.Given as goal
 
 abbrev pub invariant-loop-index : goal.invariant-loop-index

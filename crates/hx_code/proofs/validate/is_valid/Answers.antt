@@ -1,5 +1,5 @@
 use Rattle.std.proofs.Common.{◌≡◌, ◌∙◌, sym, refl, true, false}
-use Rattle.hx_code.proofs.Tests.{all_valid, words_of_valid, carries_of_valid, limits_same}
+use Rattle.hx_code.proofs.Validation.{all_valid, words_of_valid, carries_of_valid, limits_same}
 use Rattle.hx_code.proofs.validate.is_valid.Goals as goal
 
 pub returns-then-not-words_are_fine : goal.returns-then-not-words_are_fine

@@ -5,8 +5,8 @@ use Rattle.std.proofs.lemmas.Option.{slice_get_within}
 use Rattle.hx_code.specs.declared.word.Word.{Word}
 use Rattle.hx_code.specs.declared.table.Tables.{Tables}
 use Rattle.hx_code.specs.Valid.{HasSpots, EachWord, EachRegion, BeginsRegion}
-use Rattle.hx_code.specs.Tests.{code_of, tables_of, IsFine, IsOnlyEnter, HasTwoEnters, Reaches}
-use Rattle.hx_code.proofs.Tests.{one_more, there, not_twice, has_enter, begins_back, begins_made}
+use Rattle.hx_code.specs.Validation.{code_of, tables_of, IsFine, IsOnlyEnter, HasTwoEnters, Reaches}
+use Rattle.hx_code.proofs.Validation.{one_more, there, not_twice, has_enter, begins_back, begins_made}
 use Rattle.hx_code.proofs.validate.regions_begin.Goals as goal
 
 -- where some region has two there is no code

@@ -2,7 +2,7 @@ use Rattle.std.proofs.Common.{◌≡◌, ℕ, ◌<◌, ◌≤◌, length, Some}
 use Rattle.std.specs.Prelude.{slice_get}
 use Rattle.hx_code.specs.Code.{RegionView}
 use Rattle.hx_code.specs.Valid.{BeginsRegion}
-use Rattle.hx_code.specs.Tests.{code_of, AreOnlyEnters}
+use Rattle.hx_code.specs.Validation.{code_of, AreOnlyEnters}
 use Rattle.hx_code.specs.declared.validate.TheConstants.{NOWHERE}
 use Rattle.hx_code.proofs.validate.regions_begin.Given as goal
 

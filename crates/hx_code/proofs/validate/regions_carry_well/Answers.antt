@@ -1,7 +1,7 @@
 use Rattle.std.proofs.Common.{refl}
 use Rattle.hx_code.specs.Valid.{CarriesWell}
-use Rattle.hx_code.specs.Tests.{tables_of}
-use Rattle.hx_code.proofs.Tests.{one_more}
+use Rattle.hx_code.specs.Validation.{tables_of}
+use Rattle.hx_code.proofs.Validation.{one_more}
 use Rattle.hx_code.proofs.validate.regions_carry_well.Goals as goal
 
 pub loop-index-preserved : goal.loop-index-preserved

@@ -2,7 +2,7 @@ use Rattle.std.proofs.Common.{◌≡◌, ℕ, ◌<◌, Some}
 use Rattle.std.specs.Prelude.{slice_get}
 use Rattle.hx_code.specs.Code.{RegionView}
 use Rattle.hx_code.specs.Valid.{CarriesWell}
-use Rattle.hx_code.specs.Tests.{tables_of}
+use Rattle.hx_code.specs.Validation.{tables_of}
 use Rattle.hx_code.proofs.validate.regions_carry_well.Given as goal
 
 abbrev pub invariant-loop-index : goal.invariant-loop-index

@@ -4,8 +4,8 @@ use Rattle.std.specs.Prelude.{slice_get}
 use Rattle.hx_code.specs.declared.word.Word.{Word}
 use Rattle.hx_code.specs.declared.table.Spot.{Spot}
 use Rattle.hx_code.specs.Code.{CodeView}
-use Rattle.hx_code.specs.Tests.{IsFine, tables_of}
-use Rattle.hx_code.proofs.Tests.{one_more, same_some}
+use Rattle.hx_code.specs.Validation.{IsFine, tables_of}
+use Rattle.hx_code.proofs.Validation.{one_more, same_some}
 use Rattle.hx_code.proofs.validate.words_are_fine.Goals as goal
 
 -- one more word

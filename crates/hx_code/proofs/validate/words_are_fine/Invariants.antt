@@ -2,7 +2,7 @@ use Rattle.std.proofs.Common.{◌≡◌, ℕ, ◌<◌, Some}
 use Rattle.std.specs.Prelude.{slice_get}
 use Rattle.hx_code.specs.declared.word.Word.{Word}
 use Rattle.hx_code.specs.declared.table.Spot.{Spot}
-use Rattle.hx_code.specs.Tests.{tables_of, IsFine}
+use Rattle.hx_code.specs.Validation.{tables_of, IsFine}
 use Rattle.hx_code.proofs.validate.words_are_fine.Given as goal
 
 abbrev pub invariant-loop-place : goal.invariant-loop-place

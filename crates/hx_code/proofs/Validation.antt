@@ -10,7 +10,7 @@ use Rattle.hx_code.specs.declared.table.Spot.{Spot}
 use Rattle.hx_code.specs.declared.table.Tables.{Tables}
 use Rattle.hx_code.specs.Code.{CodeView, RegionView}
 use Rattle.hx_code.specs.Valid.{IsValid, HasSpots, WithinLimits, EachWord, IsBeside, HasHeight, successors, BeginsFunctions, BeginsRegion, EachRegion, CarriesWell}
-use Rattle.hx_code.specs.Tests.{code_of, tables_of, IsLed, IsFine, IsEnterIn, IsOnlyEnter, AreOnlyEnters, HasTwoEnters, BeginsAt, EntersRegion}
+use Rattle.hx_code.specs.Validation.{code_of, tables_of, IsLed, IsFine, IsEnterIn, IsOnlyEnter, AreOnlyEnters, HasTwoEnters, BeginsAt, EntersRegion}
 use Rattle.std.proofs.lemmas.Bool.{cases_lt}
 
 pub same_some : {A : Type 0} (x y : A) → Some x ≡ Some y → x ≡ y

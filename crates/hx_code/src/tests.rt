@@ -1,0 +1,558 @@
+// Small codes by hand: what the rules refuse, and what the executor does before it asks.
+
+use crate::code::Code;
+use crate::local::Local;
+use crate::table::{Carried, Func, Region, Spot, Tables};
+use crate::validate::validate;
+use crate::word::{Array, Ask, Output, Word};
+use hx_tree::outcome::{Fault, FaultKind};
+use hx_tree::token::Pos;
+use hx_tree::tree::{Operator, UnaryOp};
+use std::alloc::{AllocError, Global};
+use std::test::Fail;
+
+fn at(col: u32) -> Pos {
+    Pos { line: 1, col }
+}
+
+// The spots of words in one function, by their heights; those from `from` up to `to` stand in region 0.
+fn spots(alloc: Global, heights: &[u32], from: usize, to: usize) -> Result<Vec<Spot>, AllocError> {
+    let mut made = Vec::new(alloc);
+    for (place, height) in heights.iter().enumerate() {
+        let region = if from <= place && place < to {
+            Some(0)
+        } else {
+            None
+        };
+        made.push(Spot {
+            function: 0,
+            region,
+            height: *height,
+        })?;
+    }
+    Ok(made)
+}
+
+// What is wrong with a code that is valid but for this.
+#[derive(Clone, Copy, Debug)]
+enum Flaw {
+    None,
+    // limits
+    ParametersAbovePrivates,
+    TooManyParameters,
+    TooManyPrivates,
+    TooHigh,
+    OpeningTooShort,
+    NoMain,
+    MainTakesArguments,
+    InputOutside,
+    InputLengthOutside,
+    // names
+    PrivateUnknown,
+    StoreWordUnknown,
+    ArrayOutside,
+    ArrayEmpty,
+    FunctionUnknown,
+    RegionUnknown,
+    // where words lead
+    NoNextWord,
+    JumpsOutside,
+    JumpsIntoRegion,
+    // heights
+    OperandMissing,
+    HeightOneShort,
+    // functions and regions
+    FunctionBeginsHigh,
+    RegionBeginsOutside,
+    RegionEndsInside,
+    NoEnter,
+    TwoEnters,
+    // turn, leave and enter
+    TurnOutside,
+    LeaveHigh,
+    EnterInside,
+    // carried and copied words
+    CellTwice,
+    CellTooHigh,
+    CarriedTwice,
+    CopiedTwice,
+    CarriedAndCopied,
+    CarriedUnknown,
+    // spots
+    SpotMissing,
+}
+
+const FLAWS: [Flaw; 35] = [
+    Flaw::ParametersAbovePrivates,
+    Flaw::TooManyParameters,
+    Flaw::TooManyPrivates,
+    Flaw::TooHigh,
+    Flaw::OpeningTooShort,
+    Flaw::NoMain,
+    Flaw::MainTakesArguments,
+    Flaw::InputOutside,
+    Flaw::InputLengthOutside,
+    Flaw::PrivateUnknown,
+    Flaw::StoreWordUnknown,
+    Flaw::ArrayOutside,
+    Flaw::ArrayEmpty,
+    Flaw::FunctionUnknown,
+    Flaw::RegionUnknown,
+    Flaw::NoNextWord,
+    Flaw::JumpsOutside,
+    Flaw::JumpsIntoRegion,
+    Flaw::OperandMissing,
+    Flaw::HeightOneShort,
+    Flaw::FunctionBeginsHigh,
+    Flaw::RegionBeginsOutside,
+    Flaw::RegionEndsInside,
+    Flaw::NoEnter,
+    Flaw::TwoEnters,
+    Flaw::TurnOutside,
+    Flaw::LeaveHigh,
+    Flaw::EnterInside,
+    Flaw::CellTwice,
+    Flaw::CellTooHigh,
+    Flaw::CarriedTwice,
+    Flaw::CopiedTwice,
+    Flaw::CarriedAndCopied,
+    Flaw::CarriedUnknown,
+    Flaw::SpotMissing,
+];
+
+// `int c; int main(){ pwhile(c<2){ c=c+1; } }`, with words and heights changed by the flaw.
+fn words_of(flaw: Flaw) -> ([Word; 22], [u32; 22]) {
+    let mut words = [
+        Word::Enter(0, 11),
+        Word::Glob(0),
+        Word::Const(2),
+        Word::Binary(Operator::Less, at(31)),
+        Word::JumpFalse(10),
+        Word::Glob(0),
+        Word::Const(1),
+        Word::Binary(Operator::Add, at(39)),
+        Word::SetGlob(0),
+        Word::Turn,
+        Word::Leave,
+        Word::Glob(0),
+        Word::Const(2),
+        Word::Binary(Operator::Less, at(31)),
+        Word::JumpFalse(20),
+        Word::Glob(0),
+        Word::Const(1),
+        Word::Binary(Operator::Add, at(39)),
+        Word::SetGlob(0),
+        Word::Jump(11),
+        Word::Const(0),
+        Word::Ret,
+    ];
+    let mut heights = [
+        0, 0, 1, 2, 1, 0, 1, 2, 1, 0, 0, 0, 1, 2, 1, 0, 1, 2, 1, 0, 0, 1,
+    ];
+    match flaw {
+        Flaw::TooHigh => heights[21] = 257,
+        Flaw::PrivateUnknown => words[11] = Word::Priv(4),
+        Flaw::StoreWordUnknown => words[11] = Word::Glob(65),
+        Flaw::ArrayOutside => words[17] = elem(2),
+        Flaw::ArrayEmpty => words[17] = elem(0),
+        Flaw::FunctionUnknown => words[20] = Word::Call(1, at(1)),
+        Flaw::RegionUnknown => words[0] = Word::Enter(1, 11),
+        Flaw::NoNextWord => words[21] = Word::Drop,
+        Flaw::JumpsOutside => words[19] = Word::Jump(22),
+        Flaw::JumpsIntoRegion => words[19] = Word::Jump(1),
+        Flaw::OperandMissing => words[20] = Word::Ret,
+        Flaw::HeightOneShort => heights[3] = 1,
+        Flaw::FunctionBeginsHigh => heights[0] = 1,
+        Flaw::NoEnter => words[0] = Word::Jump(11),
+        Flaw::TwoEnters => words[19] = Word::Enter(0, 11),
+        Flaw::TurnOutside => words[21] = Word::Turn,
+        Flaw::LeaveHigh => heights[10] = 1,
+        Flaw::EnterInside => words[9] = Word::Enter(0, 1),
+        _ => {}
+    }
+    (words, heights)
+}
+
+fn elem(length: u32) -> Word {
+    Word::Elem(Array { base: 0, length }, at(1))
+}
+
+fn pair(private: u32, cell: u32) -> Carried {
+    Carried { private, cell }
+}
+
+fn region_of(alloc: Global, flaw: Flaw) -> Result<Region, AllocError> {
+    let start = match flaw {
+        Flaw::RegionBeginsOutside => 11,
+        _ => 1,
+    };
+    let exit = match flaw {
+        Flaw::RegionEndsInside => 10,
+        _ => 20,
+    };
+    let carried = match flaw {
+        Flaw::CellTwice => [pair(0, 0), pair(1, 0)],
+        Flaw::CellTooHigh => [pair(0, 0), pair(1, 64)],
+        Flaw::CarriedTwice => [pair(0, 0), pair(0, 1)],
+        Flaw::CarriedUnknown => [pair(0, 0), pair(4, 1)],
+        _ => [pair(0, 0), pair(1, 63)],
+    };
+    let copied = match flaw {
+        Flaw::CopiedTwice => [2, 2],
+        Flaw::CarriedAndCopied => [2, 1],
+        _ => [2, 3],
+    };
+    Ok(Region::new(
+        start,
+        exit,
+        Vec::from_slice(alloc, &carried)?,
+        Vec::from_slice(alloc, &copied)?,
+    ))
+}
+
+fn code_of(alloc: Global, flaw: Flaw) -> Result<Option<Code>, AllocError> {
+    let (words, heights) = words_of(flaw);
+    let (parameters, privates) = match flaw {
+        Flaw::ParametersAbovePrivates => (5, 4),
+        Flaw::TooManyParameters => (9, 9),
+        Flaw::TooManyPrivates => (0, 65),
+        Flaw::MainTakesArguments => (1, 4),
+        _ => (0, 4),
+    };
+    let mut functions = Vec::new(alloc);
+    functions.push(Func::new(b"main".to_vec(alloc)?, 0, parameters, privates))?;
+    let mut regions = Vec::new(alloc);
+    regions.push(region_of(alloc, flaw)?)?;
+    let shown = match flaw {
+        Flaw::SpotMissing => 21,
+        _ => 22,
+    };
+    let tables = Tables {
+        spots: spots(alloc, &heights[..shown], 1, 11)?,
+        functions,
+        regions,
+        globals: 1,
+        opening: match flaw {
+            Flaw::OpeningTooShort => Vec::new(alloc),
+            _ => Vec::from_slice(alloc, &[7])?,
+        },
+        main: match flaw {
+            Flaw::NoMain => 1,
+            _ => 0,
+        },
+        input: match flaw {
+            Flaw::InputOutside => Some(Array { base: 1, length: 1 }),
+            _ => Some(Array { base: 0, length: 1 }),
+        },
+        input_length: match flaw {
+            Flaw::InputLengthOutside => Some(1),
+            _ => Some(0),
+        },
+    };
+    Ok(validate(Vec::from_slice(alloc, &words)?, tables))
+}
+
+#[test]
+fn the_rules_refuse_each_flaw(rt: HostRuntime) -> Result<(), Fail> {
+    let alloc = rt.alloc();
+    assert!(rt; code_of(alloc, Flaw::None)?.is_some());
+    for flaw in FLAWS {
+        assert!(rt; code_of(alloc, flaw)?.is_none(), "{flaw:?}");
+    }
+    Ok(())
+}
+
+#[test]
+fn code_shows_its_parts(rt: HostRuntime) -> Result<(), Fail> {
+    let code = code_of(rt.alloc(), Flaw::None)?.ok_or("valid")?;
+    assert_eq!(rt; code.words().len(), 22);
+    assert_eq!(rt; code.spots().len(), 22);
+    assert_eq!(rt; code.functions().len(), 1);
+    assert_eq!(rt; code.regions().len(), 1);
+    assert_eq!(rt; code.globals(), 1);
+    assert_eq!(rt; code.opening(), [7].as_slice());
+    assert_eq!(rt; code.main().name(), b"main".as_slice());
+    assert_eq!(rt; code.function_at(0).privates(), 4);
+    assert_eq!(rt; code.function_at(0).parameters(), 0);
+    assert_eq!(rt; code.function_at(0).entry(), 0);
+    assert_eq!(rt; code.region_at(0).start(), 1);
+    assert_eq!(rt; code.region_at(0).exit(), 20);
+    assert_eq!(rt; code.region_at(0).carried().len(), 2);
+    assert_eq!(rt; code.region_at(0).copied(), [2, 3].as_slice());
+    assert_eq!(rt; code.input(), Some(Array { base: 0, length: 1 }));
+    assert_eq!(rt; code.input_length(), Some(0));
+    Ok(())
+}
+
+// A program of main alone that returns the value of these words.
+fn main_of(alloc: Global, words: &[Word], heights: &[u32]) -> Result<Option<Code>, AllocError> {
+    let mut functions = Vec::new(alloc);
+    functions.push(Func::new(b"main".to_vec(alloc)?, 0, 0, 2))?;
+    let tables = Tables {
+        spots: spots(alloc, heights, 0, 0)?,
+        functions,
+        regions: Vec::new(alloc),
+        globals: 4,
+        opening: Vec::from_slice(alloc, &[0; 4])?,
+        main: 0,
+        input: None,
+        input_length: None,
+    };
+    Ok(validate(Vec::from_slice(alloc, words)?, tables))
+}
+
+// What a program asks first.
+fn asked(alloc: Global, words: &[Word], heights: &[u32]) -> Result<Option<Ask>, AllocError> {
+    match main_of(alloc, words, heights)? {
+        None => Ok(None),
+        Some(code) => {
+            let mut local = Local::new(alloc, &code)?;
+            Ok(Some(local.stretch(&code, 1000).ask))
+        }
+    }
+}
+
+#[test]
+fn operators_give_their_values(rt: HostRuntime) -> Result<(), Fail> {
+    let rows = [
+        (Operator::Add, 2147483647, 1, -2147483648),
+        (Operator::Sub, 7, 3, 4),
+        (Operator::Mul, 65536, 65536, 0),
+        (Operator::Div, -7, 2, -3),
+        (Operator::Div, -2147483648, -1, -2147483648),
+        (Operator::Rem, -7, 2, -1),
+        (Operator::Rem, -2147483648, -1, 0),
+        (Operator::ShiftLeft, 1, 33, 2),
+        (Operator::ShiftLeft, 1, -1, -2147483648),
+        (Operator::ShiftRight, -8, 1, -4),
+        (Operator::Less, 1, 2, 1),
+        (Operator::LessEqual, 2, 2, 1),
+        (Operator::Greater, 1, 2, 0),
+        (Operator::GreaterEqual, 1, 2, 0),
+        (Operator::Equal, 2, 2, 1),
+        (Operator::NotEqual, 2, 2, 0),
+        (Operator::BitAnd, 12, 10, 8),
+        (Operator::BitXor, 12, 10, 6),
+        (Operator::BitOr, 12, 10, 14),
+    ];
+    for (operator, x, y, value) in rows {
+        let words = [
+            Word::Const(x),
+            Word::Const(y),
+            Word::Binary(operator, at(5)),
+            Word::Ret,
+        ];
+        let answer = asked(rt.alloc(), &words, &[0, 1, 2, 1])?;
+        assert_eq!(rt; answer, Some(Ask::Returns(value)), "{operator:?}");
+    }
+    Ok(())
+}
+
+#[test]
+fn unary_operators_give_their_values(rt: HostRuntime) -> Result<(), Fail> {
+    let rows = [
+        (UnaryOp::Negate, -2147483648, -2147483648),
+        (UnaryOp::Not, 0, 1),
+        (UnaryOp::Not, 5, 0),
+        (UnaryOp::Invert, 5, -6),
+    ];
+    for (operator, x, value) in rows {
+        let words = [Word::Const(x), Word::Unary(operator), Word::Ret];
+        let answer = asked(rt.alloc(), &words, &[0, 1, 1])?;
+        assert_eq!(rt; answer, Some(Ask::Returns(value)), "{operator:?}");
+    }
+    Ok(())
+}
+
+#[test]
+fn a_division_by_zero_is_a_fault(rt: HostRuntime) -> Result<(), Fail> {
+    let words = [
+        Word::Const(1),
+        Word::Const(0),
+        Word::Binary(Operator::Rem, at(9)),
+        Word::Ret,
+    ];
+    let fault = Fault {
+        kind: FaultKind::ZeroDivisor,
+        pos: at(9),
+    };
+    let answer = asked(rt.alloc(), &words, &[0, 1, 2, 1])?;
+    assert_eq!(rt; answer, Some(Ask::Faults(fault)));
+    Ok(())
+}
+
+#[test]
+fn elements_are_in_range(rt: HostRuntime) -> Result<(), Fail> {
+    let array = Array { base: 1, length: 3 };
+    let fault = Fault {
+        kind: FaultKind::IndexOutOfRange,
+        pos: at(4),
+    };
+    let rows = [
+        (0, Ask::Loads(1)),
+        (2, Ask::Loads(3)),
+        (3, Ask::Faults(fault)),
+        (-1, Ask::Faults(fault)),
+    ];
+    for (index, ask) in rows {
+        let words = [Word::Const(index), Word::Elem(array, at(4)), Word::Ret];
+        assert_eq!(rt; asked(rt.alloc(), &words, &[0, 1, 1])?, Some(ask));
+    }
+    let words = [
+        Word::Const(2),
+        Word::Const(9),
+        Word::SetElem(array, at(4)),
+        Word::Const(0),
+        Word::Ret,
+    ];
+    let answer = asked(rt.alloc(), &words, &[0, 1, 2, 0, 1])?;
+    assert_eq!(rt; answer, Some(Ask::Stores(3, 9)));
+    Ok(())
+}
+
+// `int main(){ int x=5; int y=x; if(!y) emit(1); print(x*x); }`, by hand.
+#[test]
+fn private_words_and_jumps(rt: HostRuntime) -> Result<(), Fail> {
+    let words = [
+        Word::Const(5),
+        Word::Dup,
+        Word::SetPriv(0),
+        Word::SetPriv(1),
+        Word::Priv(1),
+        Word::JumpTrue(8),
+        Word::Const(1),
+        Word::Emit(at(20)),
+        Word::Priv(0),
+        Word::Dup,
+        Word::Binary(Operator::Mul, at(30)),
+        Word::Print(at(40)),
+        Word::Jump(13),
+        Word::Const(0),
+        Word::Ret,
+    ];
+    let heights = [0, 1, 2, 1, 0, 1, 0, 1, 0, 1, 2, 1, 0, 0, 1];
+    let answer = asked(rt.alloc(), &words, &heights)?;
+    assert_eq!(rt; answer, Some(Ask::Prints(Output::Number(25), at(40))));
+    let words = [
+        Word::Const(-1),
+        Word::Emit(at(3)),
+        Word::Const(0),
+        Word::Ret,
+    ];
+    let answer = asked(rt.alloc(), &words, &[0, 1, 0, 1])?;
+    assert_eq!(rt; answer, Some(Ask::Prints(Output::Byte(255), at(3))));
+    Ok(())
+}
+
+// A program of two functions, the second of which has the words from its entry on.
+fn two_functions(
+    alloc: Global,
+    words: &[Word],
+    heights: &[u32],
+    functions: Vec<Func>,
+) -> Result<Option<Code>, AllocError> {
+    let second = match functions.get(1) {
+        None => 0,
+        Some(function) => function.entry(),
+    };
+    let mut made = Vec::new(alloc);
+    for (place, height) in heights.iter().enumerate() {
+        made.push(Spot {
+            function: if place < second as usize { 0 } else { 1 },
+            region: None,
+            height: *height,
+        })?;
+    }
+    let tables = Tables {
+        spots: made,
+        functions,
+        regions: Vec::new(alloc),
+        globals: 0,
+        opening: Vec::new(alloc),
+        main: 0,
+        input: None,
+        input_length: None,
+    };
+    Ok(validate(Vec::from_slice(alloc, words)?, tables))
+}
+
+// `int less(int a, int b){ return a-b; } int main(){ return less(7, 3); }`
+#[test]
+fn calls_take_their_arguments(rt: HostRuntime) -> Result<(), Fail> {
+    let alloc = rt.alloc();
+    let words = [
+        Word::Const(7),
+        Word::Const(3),
+        Word::Call(1, at(50)),
+        Word::Ret,
+        Word::Priv(0),
+        Word::Priv(1),
+        Word::Binary(Operator::Sub, at(30)),
+        Word::Ret,
+    ];
+    let mut functions = Vec::new(alloc);
+    functions.push(Func::new(b"main".to_vec(alloc)?, 0, 0, 0))?;
+    functions.push(Func::new(b"less".to_vec(alloc)?, 4, 2, 2))?;
+    let code = two_functions(alloc, &words, &[0, 1, 2, 1, 0, 1, 2, 1], functions)?.ok_or("valid")?;
+    let mut local = Local::new(alloc, &code)?;
+    let done = local.stretch(&code, 1000);
+    assert_eq!(rt; done.ask, Ask::Returns(4));
+    assert_eq!(rt; done.words, 7);
+    Ok(())
+}
+
+// `int f(){ return f(); } int main(){ return f(); }`
+#[test]
+fn the_sixty_fifth_call_is_a_fault(rt: HostRuntime) -> Result<(), Fail> {
+    let alloc = rt.alloc();
+    let words = [
+        Word::Call(1, at(40)),
+        Word::Ret,
+        Word::Call(1, at(17)),
+        Word::Ret,
+    ];
+    let mut functions = Vec::new(alloc);
+    functions.push(Func::new(b"main".to_vec(alloc)?, 0, 0, 0))?;
+    functions.push(Func::new(b"f".to_vec(alloc)?, 2, 0, 0))?;
+    let code = two_functions(alloc, &words, &[0, 1, 0, 1], functions)?.ok_or("valid")?;
+    let mut local = Local::new(alloc, &code)?;
+    let done = local.stretch(&code, 1000);
+    let fault = Fault {
+        kind: FaultKind::CallTooDeep,
+        pos: at(17),
+    };
+    assert_eq!(rt; done.ask, Ask::Faults(fault));
+    assert_eq!(rt; done.words, 63);
+    assert_eq!(rt; local.calls(), 64);
+    Ok(())
+}
+
+// The first iterations of `pwhile(c<2) c=c+1;`, with the store in the test's hands.
+#[test]
+fn an_iteration_asks_for_its_words(rt: HostRuntime) -> Result<(), Fail> {
+    let alloc = rt.alloc();
+    let code = code_of(alloc, Flaw::None)?.ok_or("valid")?;
+    let mut local = Local::new(alloc, &code)?;
+    let opens = local.stretch(&code, 1000);
+    assert_eq!(rt; opens.words, 0);
+    assert_eq!(rt; opens.ask, Ask::Enters(0, 11));
+    let mut iteration = Local::new(alloc, &code)?;
+    iteration.copy_from(&local);
+    assert_eq!(rt; code.regions().len(), 1);
+    let mut words = [0; 64];
+    words[2] = 5;
+    words[1] = 6;
+    iteration.begin(&code, 0, 0, &words);
+    assert_eq!(rt; iteration.calls(), 1);
+    assert_eq!(rt; iteration.below(), 0);
+    assert_eq!(rt; iteration.privates()[2], 5);
+    assert_eq!(rt; iteration.privates()[1], 0);
+    let loads = iteration.stretch(&code, 1000);
+    assert_eq!(rt; loads.ask, Ask::Loads(0));
+    iteration.load(&code, loads.next, 1);
+    let more = iteration.stretch(&code, 2);
+    assert_eq!(rt; more.ask, Ask::Goes);
+    local.leave_to(20, &words);
+    assert_eq!(rt; local.privates()[2], 5);
+    Ok(())
+}
