@@ -5,7 +5,7 @@ use Rattle.std.proofs.lemmas.List.{length-map, length-replicate, length-drop}
 use Rattle.std.proofs.lemmas.List.Sums.{sum_by-cons}
 use Rattle.hx_tree.specs.declared.limits.TheConstants.{CELL_LIMIT}
 use Rattle.hx_tree.specs.Tree.{Program, Item, Globals, Function, GlobalDecl, Shape, Scalar, Array}
-use Rattle.hx_tree.specs.Meaning.{item_globals, globals_of, opening_words, constant_value, filled, counted, words_at_start, array_words, opening_world, InputFits}
+use Rattle.hx_tree.specs.Meaning.{room_for_input, item_globals, globals_of, opening_words, constant_value, filled, counted, words_at_start, array_words, opening_world, InputFits}
 use Rattle.hx_tree.specs.Accepted.{AcceptsItem, AcceptsShape, IsAccepted, shape_words, is_among, IsDistinct}
 use Rattle.hx_check.specs.declared.resolved.Words.{Words}
 use Rattle.hx_check.specs.Symbols.{symbol_at}
@@ -130,6 +130,24 @@ seen_int : (sh : Shape) (a : ℕ) → int_word (Some (symbol_at sh a)) ≡ told_
 seen_int (Scalar c) a = refl
 seen_int (Array n cs) a = refl
 
+-- the words that input can fill
+room_first : (x : List ℕ) (gs : List GlobalDecl) (a : ℕ) → IsDistinct (map gname gs)
+    → sum_by (λ g. if bytes_eq g.name.text x then array_words g.shape else 0) gs ≡ code.array_words (option_map array_of (first_array x gs a))
+room_first x [] a d = refl
+room_first x (g ∷ gs) a d =
+    sum_by-cons (λ g. if bytes_eq g.name.text x then array_words g.shape else 0) g gs ∙ go (room_first x gs (a + shape_words g.shape) d.1) (bytes_eq g.name.text x) refl
+  where
+    at_it : (sh : Shape) (n : ℕ) → n ≡ 0 → array_words sh + n ≡ code.array_words (option_map array_of (told_array sh a))
+    at_it (Scalar c) n z = omega (arith, z)
+    at_it (Array k cs) n z = omega (arith, z)
+
+    go : sum_by (λ g. if bytes_eq g.name.text x then array_words g.shape else 0) gs ≡ code.array_words (option_map array_of (first_array x gs (a + shape_words g.shape)))
+        → (b : Bool) → bytes_eq g.name.text x ≡ b
+        → (if b then array_words g.shape else 0) + sum_by (λ g. if bytes_eq g.name.text x then array_words g.shape else 0) gs
+          ≡ code.array_words (option_map array_of (if b then told_array g.shape a else first_array x gs (a + shape_words g.shape)))
+    go more true e = at_it g.shape _ (none_counted x (λ g. array_words g.shape) gs (subst (λ y. is_among y (map gname gs) ≡ false) (same_text g.name.text x e) d.0))
+    go more false e = omega (arith, more)
+
 array_first : (x : List ℕ) (gs : List GlobalDecl) (a : ℕ) → first_by Words told_array resolve.array_words seen_array (λ i r k. refl) refl x gs a ≡ first_array x gs a
 array_first x [] a = refl
 array_first x (g ∷ gs) a = ap (λ o. if bytes_eq g.name.text x then told_array g.shape a else o) (array_first x gs (a + shape_words g.shape))
@@ -177,3 +195,10 @@ module _ (p : Program) (accepted : IsAccepted p) where
       let gs = globals_of p in
       let len = words_fit (with_count input) gs (counted_fits input gs (filled_fits input gs distinct fits room)) in
       omega (arith, ap length (store_is input room), length-append (flat_map (with_count input) gs) (replicate CELL_LIMIT (pos 0)), length-replicate CELL_LIMIT (pos 0), len)
+
+  -- the same inputs fit
+  pub room_is : room_for_input p ≡ code.room_for_input (code_of (resolve p))
+  room_is =
+      let gs = globals_of p in
+      let array : (resolve p).input ≡ first_array (codes "in") gs 0 = by_symbol Words told_array resolve.array_words seen_array (λ i r k. refl) refl p.items 0 0 (codes "in") accepted.distinct ∙ array_first (codes "in") gs 0 in
+      room_first (codes "in") gs 0 distinct ∙ sym (ap (λ o. code.array_words (option_map array_of o)) array)

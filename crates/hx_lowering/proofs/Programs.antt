@@ -29,7 +29,7 @@ use Rattle.hx_lowering.proofs.At.{layout_of, world_at, At, at_place, shows}
 use Rattle.hx_lowering.proofs.Scene.{Came}
 use Rattle.hx_lowering.proofs.Functions.{IsFunction, function_is}
 use Rattle.hx_lowering.proofs.Placed.{IsPlaced}
-use Rattle.hx_lowering.proofs.Begins.{globals_are, begins, has_room}
+use Rattle.hx_lowering.proofs.Begins.{room_is, globals_are, begins, has_room}
 
 -- ---- a machine that has ended
 
@@ -116,6 +116,7 @@ module _ (p : Program) (accepted : IsAccepted p) where
 
   pub behaves : Behaves p code_here
   behaves = record {
+    fits = λ input. (λ fit. subst (λ n. length input ≤ n) (room_is p accepted) fit, λ fit. subst (λ n. length input ≤ n) (sym (room_is p accepted)) fit);
     ends = λ input room r means. shown_so input means.0 _ r (runs input room means.0) means.1;
     ends_only = λ input room n e over.
         let found = meant_so input n e over (run_function (main_of p) [] (main_context p n) (opening_world p input)) (runs input room n) in
