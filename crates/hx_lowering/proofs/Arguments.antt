@@ -1,10 +1,9 @@
 -- Arguments on top of the operands become the first private words, and these are the parameters.
-use Rattle.std.proofs.Common.{◌≡◌, ℕ, zero, suc, ◌+◌, ◌-◌, ◌≤◌, ◌<◌, Bool, List, [], ◌∷◌, ◌++◌, length, drop, Option, Some, None, ℤ, pos, refl, sym, ap, subst, ◌∙◌, arith, length-set, get_or-set_other, get_or-set_same, ⊎_elim, append_assoc}
+use Rattle.std.proofs.Common.{◌≡◌, ℕ, zero, suc, ◌+◌, ◌-◌, ◌≤◌, ◌<◌, List, [], ◌∷◌, ◌++◌, length, drop, ℤ, pos, refl, sym, ap, subst, ◌∙◌, arith, length-set, get_or-set_other, get_or-set_same, ⊎_elim, append_assoc}
 use Rattle.std.specs.Prelude.{slice_set, slice_index_or, zip}
 use Rattle.std.proofs.lemmas.Bool.{cases_lt}
 use Rattle.std.proofs.Math.Seq.{drop-append_seam}
 use Rattle.hx_tree.specs.Tree.{Name}
-use Rattle.hx_tree.specs.World.{Map}
 use Rattle.hx_tree.specs.Meaning.{texts_of}
 use Rattle.hx_check.specs.Symbols.{numbered}
 use Rattle.hx_code.specs.Local.{with_arguments}
@@ -36,6 +35,7 @@ from_top (suc n) (v ∷ os) ps i lt a b =
     lower : i < n → slice_index_or (with_arguments n os (slice_set ps n v)) i (pos 0) ≡ slice_index_or os (n - 1 - i) (pos 0)
         → slice_index_or (with_arguments n os (slice_set ps n v)) i (pos 0) ≡ slice_index_or (v ∷ os) (suc n - 1 - i) (pos 0)
     lower lt' h = let e : suc n - 1 - i ≡ suc (n - 1 - i) = omega arith in h ∙ sym (ap (λ j. slice_index_or (v ∷ os) j (pos 0)) e)
+
     last : i ≡ n → slice_index_or (with_arguments n os (slice_set ps n v)) i (pos 0) ≡ slice_index_or (v ∷ os) (suc n - 1 - i) (pos 0)
     last e =
         let z : suc n - 1 - i ≡ 0 = omega arith in

@@ -1,38 +1,35 @@
 -- The words of an assignment do what it does.
-use Rattle.std.proofs.Common.{◌≡◌, ℕ, zero, suc, ◌+◌, ◌≤◌, ◌<◌, Bool, true, false, List, [], ◌∷◌, length, Option, Some, None, ℤ, pos, refl, sym, ap, subst, ◌∙◌, arith, if◌then◌else◌}
-use Rattle.std.specs.Prelude.{nat_eq, option_map, IsTrue, ◌||◌, ◌&&◌}
+use Rattle.std.proofs.Common.{◌≡◌, ℕ, ◌≤◌, Bool, true, List, [], ◌∷◌, length, Option, Some, None, ℤ, pos, refl, sym, ap, subst, ◌∙◌, arith}
+use Rattle.std.specs.Prelude.{nat_eq, option_map, ◌||◌}
 use Rattle.std.proofs.lemmas.Bool.Decides.{Decides-eqb}
 use Rattle.hx_tree.specs.declared.token.Pos.{Pos}
-use Rattle.hx_tree.specs.declared.limits.TheConstants.{PRIVATE_LIMIT}
 use Rattle.hx_tree.specs.declared.tree.Operator.{Operator}
 use Rattle.hx_tree.specs.declared.tree.Operator.TheVariants.{Add, Sub}
 use Rattle.hx_tree.specs.Tree as tree
 use Rattle.hx_tree.specs.Tree.{Program, Name}
-use Rattle.hx_tree.specs.World.{World, Answer, Gives, Faults, Unfinished, Run, and_then, ◌>>=◌, gives, Environment, local_value, set_local, write_element, read_element}
+use Rattle.hx_tree.specs.World.{World, Gives, Run, ◌>>=◌, gives, Environment, local_value, set_local, write_element, read_element}
 use Rattle.hx_tree.specs.Value.{Calling, value, values, operate, read_variable}
 use Rattle.hx_tree.specs.Effect.{call_in, assign, write_variable, no_place, update_place, set_place}
 use Rattle.hx_tree.specs.Accepted.{Surroundings, AcceptsExpr, AcceptsExprs, AcceptsAssignment, AcceptsPlace, FunctionKind, kind_of, count}
 use Rattle.hx_tree.specs.declared.tree.Returns.{Returns}
-use Rattle.hx_check.specs.declared.resolved.Words.{Words}
 use Rattle.hx_check.specs.Resolved as resolved
 use Rattle.hx_check.specs.Symbols.{Scopes, private_word, symbols_of}
 use Rattle.hx_check.specs.Carried.{assignment_reads, assigns, expr_reads, exprs_read, index_reads, is_to}
-use Rattle.hx_check.specs.Resolve.{resolve_expr, resolve_exprs, function_at, resolve_assignment, resolve_place, to_variable, variable, word_named, words_named}
+use Rattle.hx_check.specs.Resolve.{resolve_expr, resolve_exprs, function_at, resolve_assignment, to_variable, word_named, words_named}
 use Rattle.hx_code.specs.declared.word.Word.TheVariants.{Glob, SetGlob, Elem, SetElem, Dup, Binary, Call}
 use Rattle.hx_code.specs.Code.{CodeView}
 use Rattle.hx_code.specs.Machine.{Machine}
 use Rattle.hx_lowering.specs.declared.line.Line.{Line}
-use Rattle.hx_lowering.specs.Lines.{Version, put, get_private, set_private, array_of, expr_lines, exprs_lines, assignment_lines}
+use Rattle.hx_lowering.specs.Lines.{put, get_private, set_private, array_of, expr_lines, exprs_lines, assignment_lines}
 use Rattle.hx_lowering.proofs.Globals.{words_in}
 use Rattle.hx_lowering.proofs.Follow.{Follows, follows_then, at_once}
-use Rattle.hx_lowering.proofs.Setting.{Ground}
 use Rattle.hx_lowering.proofs.Stand.{Has, has_before, has_expr}
 use Rattle.hx_lowering.proofs.At.{layout_of, At}
 use Rattle.hx_lowering.proofs.Names.{env_of, value_of, Around, int_is, array_is, function_here}
 use Rattle.hx_lowering.proofs.Calling.{onto, CallsFollow}
 use Rattle.hx_lowering.proofs.Values.{Reads, Leaves, value_at, value_follows, values_follow, call_leaves, variable_follows, read_by, word_goes, operator_follows, element_follows, or_left, or_right}
 use Rattle.hx_lowering.proofs.Scene.{Scene, Fair, Stands, Holds, held, fixed_or}
-use Rattle.hx_lowering.proofs.Locals.{Tidy, Below, number_below, set_is, declare_is}
+use Rattle.hx_lowering.proofs.Locals.{Tidy, number_below, set_is}
 use Rattle.hx_lowering.proofs.Writes.{private_written, element_written, word_written}
 
 -- no word reads a private word that is fixed
@@ -93,7 +90,7 @@ module _ (p : Program) (code : CodeView) (words : code.globals ≡ words_in (lay
   pub values_here : (es : tree.Exprs) → AcceptsExprs es here → Free s (λ k. exprs_read k (resolve_exprs es (symbols_of p) scopes))
       → (h : ℕ) (ps os cells : List ℤ) (lines : List Line) → Has code (exprs_lines (resolve_exprs es (symbols_of p) scopes) s.version h lines) → (w : World) (m : Machine) → At p code s.ground (length lines) ps os cells w m
       → Follows code n m (values es call (env_of scopes (held s ps cells)) w)
-        (λ vs w' m'. (length vs ≡ count es) × At p code s.ground (length (exprs_lines (resolve_exprs es (symbols_of p) scopes) s.version h lines)) ps (onto vs os) cells w' m')
+      (λ vs w' m'. (length vs ≡ count es) × At p code s.ground (length (exprs_lines (resolve_exprs es (symbols_of p) scopes) s.version h lines)) ps (onto vs os) cells w' m')
   values_here es ok free h ps os cells lines has w m at =
       values_follow p code s.ground s.version words fair.globals fair.carries scopes here around call n calling es ok h (held s ps cells) ps os cells (reads_free s ps cells _ free) lines has w m at
 
@@ -115,10 +112,10 @@ module _ (p : Program) (code : CodeView) (words : code.globals ≡ words_in (lay
       let few = fair.few in
       private_written p code words s fair n h k z ps [] cells holds loose.1 (omega arith) w m lines (Gives (set_local (env_of scopes (held s ps cells)) x z) w) (Behind (put s.version h (set_private s.version k) lines)) has at
       (λ ps' cells' m' changed at'.
-        let env_is : set_local (env_of scopes (held s ps cells)) x z ≡ env_of scopes (held s ps' cells') =
-        set_is scopes x k (held s ps cells) (held s ps' cells') z is tidy.apart (ap (λ o. fixed_or o (value_at s.version ps' cells' k)) loose.0 ∙ changed.here) (λ j ne. ap (fixed_or (s.fixed j)) (changed.others j ne)) in
-        at_once code m' (λ q. Stands p code s scopes (length (put s.version h (set_private s.version k) lines)) (set_local (env_of scopes (held s ps cells)) x z) w q)
-        (record { ps = ps'; cells = cells'; holds = changed.holds; at = at'; env_is = env_is }))
+      let env_is : set_local (env_of scopes (held s ps cells)) x z ≡ env_of scopes (held s ps' cells') =
+      set_is scopes x k (held s ps cells) (held s ps' cells') z is tidy.apart (ap (λ o. fixed_or o (value_at s.version ps' cells' k)) loose.0 ∙ changed.here) (λ j ne. ap (fixed_or (s.fixed j)) (changed.others j ne)) in
+      at_once code m' (λ q. Stands p code s scopes (length (put s.version h (set_private s.version k) lines)) (set_local (env_of scopes (held s ps cells)) x z) w q)
+      (record { ps = ps'; cells = cells'; holds = changed.holds; at = at'; env_is = env_is }))
 
   -- ---- `x = e`
 
@@ -129,7 +126,7 @@ module _ (p : Program) (code : CodeView) (words : code.globals ≡ words_in (lay
       → Loose s (λ k. assigns k (resolved.Set (to_variable o (word_named x (symbols_of p))) (R e)))
       → Has code (assignment_lines (resolved.Set (to_variable o (word_named x (symbols_of p))) (R e)) s.version lines)
       → Follows code n m (set_place (tree.ToVariable x) (value e call (env_of scopes (held s ps cells))) call (env_of scopes (held s ps cells)) w)
-        (Behind (assignment_lines (resolved.Set (to_variable o (word_named x (symbols_of p))) (R e)) s.version lines))
+      (Behind (assignment_lines (resolved.Set (to_variable o (word_named x (symbols_of p))) (R e)) s.version lines))
   set_variable x e is_int ok ps cells holds lines w m at (Some k) is free loose has =
       let env = env_of scopes (held s ps cells) in
       let es = expr_lines (R e) s.version 0 lines in
@@ -156,7 +153,7 @@ module _ (p : Program) (code : CodeView) (words : code.globals ≡ words_in (lay
       → Free s (λ k. assignment_reads k (resolved.Set (resolved.ToElement (words_named x (symbols_of p)) x.pos (R i)) (R e)))
       → Has code (assignment_lines (resolved.Set (resolved.ToElement (words_named x (symbols_of p)) x.pos (R i)) (R e)) s.version lines)
       → Follows code n m (set_place (tree.ToElement x i) (value e call (env_of scopes (held s ps cells))) call (env_of scopes (held s ps cells)) w)
-        (Behind (assignment_lines (resolved.Set (resolved.ToElement (words_named x (symbols_of p)) x.pos (R i)) (R e)) s.version lines))
+      (Behind (assignment_lines (resolved.Set (resolved.ToElement (words_named x (symbols_of p)) x.pos (R i)) (R e)) s.version lines))
   set_element x i e place_ok ok ps cells holds lines w m at free has =
       let ws = words_named x (symbols_of p) in
       let env = env_of scopes (held s ps cells) in
@@ -180,7 +177,7 @@ module _ (p : Program) (code : CodeView) (words : code.globals ≡ words_in (lay
       → Loose s (λ k. assigns k (resolved.Update (to_variable o (word_named x (symbols_of p))) op place (R e)))
       → Has code (assignment_lines (resolved.Update (to_variable o (word_named x (symbols_of p))) op place (R e)) s.version lines)
       → Follows code n m (update_place (tree.ToVariable x) op place (value e call (env_of scopes (held s ps cells))) call (env_of scopes (held s ps cells)) w)
-        (Behind (assignment_lines (resolved.Update (to_variable o (word_named x (symbols_of p))) op place (R e)) s.version lines))
+      (Behind (assignment_lines (resolved.Update (to_variable o (word_named x (symbols_of p))) op place (R e)) s.version lines))
   update_variable x op place e is_int ok ps cells holds lines w m at (Some k) is free loose has =
       let v = s.version in
       let env = env_of scopes (held s ps cells) in
@@ -198,7 +195,7 @@ module _ (p : Program) (code : CodeView) (words : code.globals ≡ words_in (lay
       follows_then code n m (read_variable x env w) rest (L gs ps [] cells) (Behind done)
       (subst (λ o. Follows code n m (read_by x o w) (L gs ps [] cells)) (sym local)
       (variable_follows p code s.ground v words fair.globals fair.carries scopes here around x is_int n 0 (held s ps cells) ps [] cells lines w m at (Some k) is
-        (λ k' r. ap (λ o. fixed_or o (value_at v ps cells k')) (ap s.fixed (sym ((Decides-eqb k k').0 r)) ∙ loose_k.0)) has_g))
+      (λ k' r. ap (λ o. fixed_or o (value_at v ps cells k')) (ap s.fixed (sym ((Decides-eqb k k').0 r)) ∙ loose_k.0)) has_g))
       (λ old w1 m1 at1. follows_then code n m1 (value e call env w1) (λ z. operate op place old z >>= (λ new. write_variable x new env)) (L es ps (old ∷ []) cells) (Behind done)
       (value_here e ok free_e 1 ps (old ∷ []) cells gs has_e w1 m1 at1)
       (λ z w2 m2 at2. operator_follows p code s.ground v words fair.globals fair.carries n 2 op place old z ps [] cells w2 m2 es (λ new. write_variable x new env) (Behind done) has_b at2
@@ -234,7 +231,7 @@ module _ (p : Program) (code : CodeView) (words : code.globals ≡ words_in (lay
       → Free s (λ k. assignment_reads k (resolved.Update (resolved.ToElement (words_named x (symbols_of p)) x.pos (R i)) op place (R e)))
       → Has code (assignment_lines (resolved.Update (resolved.ToElement (words_named x (symbols_of p)) x.pos (R i)) op place (R e)) s.version lines)
       → Follows code n m (update_place (tree.ToElement x i) op place (value e call (env_of scopes (held s ps cells))) call (env_of scopes (held s ps cells)) w)
-        (Behind (assignment_lines (resolved.Update (resolved.ToElement (words_named x (symbols_of p)) x.pos (R i)) op place (R e)) s.version lines))
+      (Behind (assignment_lines (resolved.Update (resolved.ToElement (words_named x (symbols_of p)) x.pos (R i)) op place (R e)) s.version lines))
   update_element x i op place e place_ok ok ps cells holds lines w m at free has =
       let ws = words_named x (symbols_of p) in
       let v = s.version in

@@ -1,6 +1,6 @@
 -- The machine at a place of a call, where the program is in a world.
-use Rattle.std.proofs.Common.{◌≡◌, ℕ, zero, suc, ◌+◌, ◌≤◌, ◌<◌, Bool, true, false, List, [], ◌∷◌, ◌++◌, length, take, drop, Option, Some, None, ℤ, pos, refl, sym, ap, subst, ◌∙◌, arith, if◌then◌else◌, append_assoc, add_assoc}
-use Rattle.std.specs.Prelude.{nat_le, slice_set, slice_get, slice_index_or, flat_map, map}
+use Rattle.std.proofs.Common.{◌≡◌, ℕ, suc, ◌+◌, ◌≤◌, Bool, true, false, List, ◌∷◌, ◌++◌, length, take, drop, Some, None, ℤ, pos, refl, sym, ap, subst, ◌∙◌, arith, if◌then◌else◌, append_assoc}
+use Rattle.std.specs.Prelude.{nat_le, slice_set, slice_get, slice_index_or, map}
 use Rattle.hx_tree.specs.declared.token.Pos.{Pos}
 use Rattle.hx_tree.specs.declared.outcome.Fault.{Fault}
 use Rattle.hx_tree.specs.declared.outcome.FaultKind.TheVariants.{TextFull}
@@ -8,19 +8,18 @@ use Rattle.hx_tree.specs.declared.outcome.End.{End}
 use Rattle.hx_tree.specs.declared.outcome.End.TheVariants as end
 use Rattle.hx_tree.specs.declared.limits.TheConstants.{TEXT_LIMIT, CELL_LIMIT}
 use Rattle.hx_tree.specs.Tree.{Program}
-use Rattle.hx_tree.specs.World.{World, Answer, Gives, Faults, Unfinished, Run, and_then, print_bytes, ◌>>=◌}
-use Rattle.hx_tree.specs.Meaning.{Ending, ending, globals_of}
+use Rattle.hx_tree.specs.World.{World, Answer, Gives, Faults, Run, and_then, print_bytes, ◌>>=◌}
+use Rattle.hx_tree.specs.Meaning.{ending, globals_of}
 use Rattle.hx_tree.specs.Accepted.{shape_words}
 use Rattle.hx_code.specs.declared.word.Word.{Word}
 use Rattle.hx_code.specs.declared.word.Output.{Output}
-use Rattle.hx_code.specs.declared.word.Ask.{Ask}
 use Rattle.hx_code.specs.declared.word.Ask.TheVariants as ask
 use Rattle.hx_code.specs.Code.{CodeView}
-use Rattle.hx_code.specs.Call.{CallView, Want, Asks, wants, wants_of, wants_at, fault_at, bytes_of}
+use Rattle.hx_code.specs.Call.{CallView, Asks, wants, wants_of, wants_at, fault_at, bytes_of}
 use Rattle.hx_code.specs.Machine.{Machine, machine_step}
 use Rattle.hx_lowering.specs.Correct.{Shows}
 use Rattle.hx_lowering.proofs.Globals.{Layout, store_from, words_in, flat_store}
-use Rattle.hx_lowering.proofs.Follow.{Follows, Reaches, steps_to, turns_to, faults_at, at_once}
+use Rattle.hx_lowering.proofs.Follow.{Follows, steps_to, turns_to, faults_at}
 use Rattle.hx_lowering.proofs.Setting.{Memory, with_store, with_text, Ended, Setting, Ground, setting_of, is_active}
 
 abbrev pub layout_of : Program → Layout
@@ -128,17 +127,24 @@ module _ (p : Program) (code : CodeView) (K : Ground) where
     where
       m0 : Memory
       m0 = h.memory
+
       printed : World
       printed = record (world_at h.memory) { text = S.before ++ h.memory.text ++ bytes_of o }
+
       after : Bool → Type 0
       after b = Follows code n m (and_then (if b then Gives tt printed else Faults (fault_at TextFull at) (world_at h.memory)) f) Done
+
       go : (b : Bool) → nat_le (length (S.before ++ h.memory.text) + length (bytes_of o)) TEXT_LIMIT ≡ b → after b
       go true e =
           steps_to code n m (S.here (call_at place' ps os') (with_text h.memory (h.memory.text ++ bytes_of o))) (f tt printed) Done
           (ap (machine_step code) h.is ∙ S.prints _ _ h.memory o at (wanted (call_at place ps os) word stands ∙ asks) e)
-          (k printed _ (record { memory = with_text h.memory (h.memory.text ++ bytes_of o); is = refl;
+          (k printed _ (record {
+            memory = with_text h.memory (h.memory.text ++ bytes_of o);
+            is = refl;
             world = ap (λ tx. record (world_at h.memory) { text = tx }) (append_assoc S.before h.memory.text (bytes_of o));
-            room = h.room; cells_are = h.cells_are }))
+            room = h.room;
+            cells_are = h.cells_are;
+          }))
       go false e =
           faults_at code n m (fault_at TextFull at) (world_at h.memory) Done
           (subst (λ x. Shows code (machine_step code x) (ending (end.Fault (fault_at TextFull at)) (world_at h.memory))) (sym h.is)

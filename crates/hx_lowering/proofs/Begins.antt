@@ -1,19 +1,14 @@
 -- The store as a run begins is the world as it begins.
-use Rattle.std.proofs.Common.{◌≡◌, ℕ, zero, suc, ◌+◌, ◌-◌, ◌≤◌, ◌<◌, Bool, true, false, List, [], ◌∷◌, ◌++◌, length, map, replicate, drop, Option, Some, None, ℤ, pos, refl, sym, ap, subst, ◌∙◌, arith, if◌then◌else◌, length-append}
+use Rattle.std.proofs.Common.{◌≡◌, ℕ, suc, ◌+◌, ◌-◌, ◌≤◌, Bool, true, false, List, [], ◌∷◌, ◌++◌, length, map, replicate, drop, Some, None, ℤ, pos, refl, sym, ap, subst, ◌∙◌, arith, if◌then◌else◌, length-append}
 use Rattle.std.specs.Prelude.{bytes_eq, codes, flat_map, sum_by, option_map, All}
 use Rattle.std.proofs.lemmas.List.{length-map, length-replicate, length-drop}
 use Rattle.std.proofs.lemmas.List.Sums.{sum_by-cons}
-use Rattle.std.proofs.lemmas.Slice.Eq.{bytes_eq-Decides}
-use Rattle.hx_tree.specs.declared.tree.Returns.{Returns}
 use Rattle.hx_tree.specs.declared.limits.TheConstants.{CELL_LIMIT}
 use Rattle.hx_tree.specs.Tree.{Program, Item, Globals, Function, GlobalDecl, Shape, Scalar, Array}
-use Rattle.hx_tree.specs.World.{look_up}
-use Rattle.hx_tree.specs.Meaning.{item_globals, globals_of, opening_words, constant_value, filled, counted, words_at_start, array_words, opening_world, InputFits}
-use Rattle.hx_tree.specs.Accepted.{Kind, AcceptsItem, AcceptsShape, IsAccepted, shape_words, is_among, IsDistinct}
+use Rattle.hx_tree.specs.Meaning.{room_for_input, item_globals, globals_of, opening_words, constant_value, filled, counted, words_at_start, array_words, opening_world, InputFits}
+use Rattle.hx_tree.specs.Accepted.{AcceptsItem, AcceptsShape, IsAccepted, shape_words, is_among, IsDistinct}
 use Rattle.hx_check.specs.declared.resolved.Words.{Words}
-use Rattle.hx_check.specs.declared.symbol.Symbol.{Symbol}
-use Rattle.hx_check.specs.declared.symbol.Symbol.TheVariants as symbol
-use Rattle.hx_check.specs.Symbols.{symbol_at, symbols_of}
+use Rattle.hx_check.specs.Symbols.{symbol_at}
 use Rattle.hx_check.specs.Resolve.{resolve, int_word}
 use Rattle.hx_check.specs.Resolve as resolve
 use Rattle.hx_code.specs.Machine as code
@@ -104,6 +99,7 @@ filled_fits input (g ∷ gs) d f room =
       where
         others : is_among (codes "in") (map gname gs) ≡ false
         others = subst (λ y. is_among y (map gname gs) ≡ false) (same_text g.name.text (codes "in") e) d.0
+
         at_it : (sh : Shape) → g.shape ≡ sh → length (filled input sh) ≡ shape_words sh
         at_it (Scalar c) is = subst (λ sh. length (opening_words sh) ≡ shape_words sh) is f.0
         at_it (Array n cs) is =
@@ -119,6 +115,7 @@ counted_fits input (g ∷ gs) f = (go (bytes_eq g.name.text (codes "n_in")) refl
     at_it (Scalar c) is e = refl
     at_it (Array n cs) is e =
         subst (λ sh. length (opening_words sh) ≡ shape_words sh) is (subst (λ ws. length ws ≡ shape_words g.shape) (same_words input g e) f.0)
+
     go : (b : Bool) → bytes_eq g.name.text (codes "n_in") ≡ b → length (if b then counted input g.shape else with_input input g) ≡ shape_words g.shape
     go true e = at_it g.shape refl e
     go false e = f.0
@@ -132,6 +129,24 @@ seen_array (Array n cs) a = refl
 seen_int : (sh : Shape) (a : ℕ) → int_word (Some (symbol_at sh a)) ≡ told_int sh a
 seen_int (Scalar c) a = refl
 seen_int (Array n cs) a = refl
+
+-- the words that input can fill
+room_first : (x : List ℕ) (gs : List GlobalDecl) (a : ℕ) → IsDistinct (map gname gs)
+    → sum_by (λ g. if bytes_eq g.name.text x then array_words g.shape else 0) gs ≡ code.array_words (option_map array_of (first_array x gs a))
+room_first x [] a d = refl
+room_first x (g ∷ gs) a d =
+    sum_by-cons (λ g. if bytes_eq g.name.text x then array_words g.shape else 0) g gs ∙ go (room_first x gs (a + shape_words g.shape) d.1) (bytes_eq g.name.text x) refl
+  where
+    at_it : (sh : Shape) (n : ℕ) → n ≡ 0 → array_words sh + n ≡ code.array_words (option_map array_of (told_array sh a))
+    at_it (Scalar c) n z = omega (arith, z)
+    at_it (Array k cs) n z = omega (arith, z)
+
+    go : sum_by (λ g. if bytes_eq g.name.text x then array_words g.shape else 0) gs ≡ code.array_words (option_map array_of (first_array x gs (a + shape_words g.shape)))
+        → (b : Bool) → bytes_eq g.name.text x ≡ b
+        → (if b then array_words g.shape else 0) + sum_by (λ g. if bytes_eq g.name.text x then array_words g.shape else 0) gs
+          ≡ code.array_words (option_map array_of (if b then told_array g.shape a else first_array x gs (a + shape_words g.shape)))
+    go more true e = at_it g.shape _ (none_counted x (λ g. array_words g.shape) gs (subst (λ y. is_among y (map gname gs) ≡ false) (same_text g.name.text x e) d.0))
+    go more false e = omega (arith, more)
 
 array_first : (x : List ℕ) (gs : List GlobalDecl) (a : ℕ) → first_by Words told_array resolve.array_words seen_array (λ i r k. refl) refl x gs a ≡ first_array x gs a
 array_first x [] a = refl
@@ -180,3 +195,10 @@ module _ (p : Program) (accepted : IsAccepted p) where
       let gs = globals_of p in
       let len = words_fit (with_count input) gs (counted_fits input gs (filled_fits input gs distinct fits room)) in
       omega (arith, ap length (store_is input room), length-append (flat_map (with_count input) gs) (replicate CELL_LIMIT (pos 0)), length-replicate CELL_LIMIT (pos 0), len)
+
+  -- the same inputs fit
+  pub room_is : room_for_input p ≡ code.room_for_input (code_of (resolve p))
+  room_is =
+      let gs = globals_of p in
+      let array : (resolve p).input ≡ first_array (codes "in") gs 0 = by_symbol Words told_array resolve.array_words seen_array (λ i r k. refl) refl p.items 0 0 (codes "in") accepted.distinct ∙ array_first (codes "in") gs 0 in
+      room_first (codes "in") gs 0 distinct ∙ sym (ap (λ o. code.array_words (option_map array_of o)) array)

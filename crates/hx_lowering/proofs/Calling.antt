@@ -1,5 +1,5 @@
 -- What a call's word does where its arguments are on top.
-use Rattle.std.proofs.Common.{◌≡◌, ℕ, ◌+◌, List, [], ◌∷◌, length, Option, Some, ℤ}
+use Rattle.std.proofs.Common.{◌≡◌, ℕ, ◌+◌, List, [], ◌∷◌, length, Some, ℤ}
 use Rattle.std.specs.Prelude.{slice_get}
 use Rattle.hx_tree.specs.declared.tree.Returns.{Returns}
 use Rattle.hx_tree.specs.Tree.{Program, Name}

@@ -1,55 +1,49 @@
 -- Calls: the words of a function do what the function means, and a call's word makes the call.
-use Rattle.std.proofs.Common.{◌≡◌, ℕ, zero, suc, ◌+◌, ◌-◌, ◌≤◌, ◌<◌, Bool, true, false, List, [], ◌∷◌, ◌++◌, length, map, drop, Option, Some, None, ℤ, pos, refl, sym, ap, subst, ◌∙◌, arith, if◌then◌else◌, ⊎_elim}
-use Rattle.std.specs.Prelude.{nat_le, bytes_eq, codes, flat_map, zip, slice_get, slice_index_or, IsTrue, nat_eq, ◌&&◌, All, option_map}
-use Rattle.std.proofs.lemmas.Bool.{cases_lt}
+use Rattle.std.proofs.Common.{◌≡◌, ℕ, zero, suc, ◌+◌, ◌<◌, true, false, List, [], ◌∷◌, ◌++◌, length, drop, Option, Some, None, ℤ, pos, refl, sym, ap, subst, ◌∙◌, arith}
+use Rattle.std.specs.Prelude.{nat_le, flat_map, zip, slice_get, slice_index_or, All, option_map}
 use Rattle.std.proofs.lemmas.List.{length-replicate}
 use Rattle.hx_tree.specs.declared.limits.TheConstants.{PRIVATE_LIMIT, CALL_LIMIT}
 use Rattle.std.proofs.lemmas.Bool.Decides.{nat_tests}
-use Rattle.std.proofs.lemmas.Option.{slice_get-map, get_or_from_slice_get}
+use Rattle.std.proofs.lemmas.Option.{slice_get-map}
 use Rattle.hx_tree.specs.declared.tree.Returns.{Returns as Returns_}
-use Rattle.hx_tree.specs.declared.tree.Returns.TheVariants as returns
-use Rattle.hx_tree.specs.declared.outcome.End.{End}
 use Rattle.hx_tree.specs.declared.outcome.End.TheVariants as end
 use Rattle.hx_tree.specs.Tree as tree
 use Rattle.hx_tree.specs.Tree.{Program, Name, Item, Func, param_names}
-use Rattle.hx_tree.specs.World.{look_up, Map, Environment, World, Answer, Gives, Faults, Unfinished, ◌>>=◌, gives}
+use Rattle.hx_tree.specs.World.{look_up, Map, Environment, World, Gives, ◌>>=◌, gives}
 use Rattle.hx_tree.specs.Effect.{Exit, GoesOn, Breaks, Continues, Returns, Context, effects}
-use Rattle.hx_tree.specs.Meaning.{calls, item_functions, functions_of, function_named, texts_of, returned, run_function, main_of, main_context, opening_world, Ending, ending, ending_of_main, meaning, Means, InputFits}
-use Rattle.hx_tree.specs.Accepted.{FunctionKind, Surroundings, AcceptsItem, AcceptsFunction, IsAccepted, kinds_of, at_start, private_words, parts_locals}
+use Rattle.hx_tree.specs.Meaning.{calls, item_functions, functions_of, texts_of, returned, run_function, ending}
+use Rattle.hx_tree.specs.Accepted.{FunctionKind, AcceptsItem, AcceptsFunction, IsAccepted, kinds_of, at_start, private_words}
 use Rattle.hx_check.specs.Resolved as resolved
-use Rattle.hx_check.specs.Symbols.{Scopes, symbols_of, numbered}
-use Rattle.hx_check.specs.Resolve.{resolve, resolve_function, resolve_parts, function_number, function_at, or_else}
+use Rattle.hx_check.specs.Symbols.{symbols_of, numbered}
+use Rattle.hx_check.specs.Resolve.{resolve, resolve_function, function_number, function_at, or_else}
 use Rattle.hx_code.specs.declared.word.Word.TheVariants.{Const, Ret, Call}
 use Rattle.hx_code.specs.declared.word.Ask.TheVariants as ask
 use Rattle.hx_code.specs.Code.{CodeView, FuncView}
-use Rattle.hx_code.specs.Code as code
 use Rattle.hx_tree.specs.declared.outcome.FaultKind.TheVariants.{CallTooDeep}
 use Rattle.hx_code.specs.Call.{CallView, Asks, wants_of, wants_at, fault_at}
 use Rattle.hx_code.specs.Local.{blank, pushed, callee, without_arguments, with_arguments}
-use Rattle.hx_code.specs.Region.{held as held_count}
-use Rattle.hx_code.specs.Machine.{Machine, by_end, machine_step, machine_after, opening_machine, opening_store}
-use Rattle.hx_lowering.specs.declared.line.Line.{Line}
-use Rattle.hx_lowering.specs.Correct.{Shows, run, Behaves}
+use Rattle.hx_code.specs.Machine.{Machine, machine_step}
+use Rattle.hx_lowering.specs.Correct.{Shows}
 use Rattle.hx_lowering.specs.Lines.{Version}
 use Rattle.hx_lowering.specs.Draft.{Draft, put_word, no_targets, plain_version, draft_of, code_of}
 use Rattle.hx_lowering.specs.Draft as draft
 use Rattle.hx_lowering.proofs.Globals.{words_in}
-use Rattle.hx_lowering.proofs.Follow.{Follows, Reaches, follows_then, follows_so, steps_to, faults_at, at_once}
+use Rattle.hx_lowering.proofs.Follow.{Follows, follows_then, follows_so, steps_to, faults_at, at_once}
 use Rattle.hx_lowering.proofs.Setting.{Memory, Ground, Outside, Inside, setting_of, is_active, Back, returns_back}
 use Rattle.hx_lowering.proofs.Deeper.{depth_of, deeper, deeper_active, deeper_depth, calls_in, calls_deep}
 use Rattle.hx_lowering.proofs.Calling.{onto, CallsFollow}
 use Rattle.hx_lowering.proofs.Arguments.{argument_at, drop-onto, length-with_arguments, parameters_are, params_tidy}
-use Rattle.hx_lowering.proofs.Stand.{words_of, spots_of, has_before, word_stands, length-put}
+use Rattle.hx_lowering.proofs.Stand.{words_of, spots_of, word_stands}
 use Rattle.hx_lowering.proofs.At.{layout_of, call_at, world_at, At, at_place, shows}
-use Rattle.hx_lowering.proofs.Names.{env_of, names_of, names_in, Around}
+use Rattle.hx_lowering.proofs.Names.{env_of, names_in, Around}
 use Rattle.hx_lowering.proofs.Values.{word_goes}
-use Rattle.hx_lowering.proofs.Scene.{Scene, Fair, Stands, Came, Holds, EndsBy, held}
+use Rattle.hx_lowering.proofs.Scene.{Scene, Fair, Came, Holds, EndsBy, held}
 use Rattle.hx_lowering.proofs.Locals.{Tidy}
 use Rattle.hx_lowering.proofs.Drafts.{HasDraft, has_word}
 use Rattle.hx_lowering.proofs.Statements.{PartsEnd, parts_follow}
 use Rattle.hx_lowering.proofs.Functions.{IsFunction, function_is}
 use Rattle.hx_lowering.proofs.Placed.{IsPlaced, placed, body_of, has_end, has_body}
-use Rattle.hx_lowering.proofs.Begins.{globals_are, begins, has_room}
+use Rattle.hx_lowering.proofs.Begins.{globals_are}
 
 -- ---- tables
 
@@ -64,7 +58,6 @@ all_lines q = record {
   regions_behind = [];
   regions = nothing_more (draft_of q).regions;
 }
-
 
 accepted_at : (ks : _) (is : List Item) (i : ℕ) (f : Func) → All (AcceptsItem ks) is → slice_get (flat_map item_functions is) i ≡ Some f → AcceptsFunction ks f
 accepted_at ks [] i f ok at = absurd cc
@@ -123,7 +116,16 @@ module _ (p : Program) (accepted : IsAccepted p) where
 
     abbrev pub scene : Ground → List ℤ → Context → Scene
     scene K cells c = record {
-      ground = K; version = V; fixed = λ j. None; kept = λ j. None; frozen = frozen_in K cells; to = no_targets; privates = private_words it.it; is_marked = false; in_loop = false; context = c;
+      ground = K;
+      version = V;
+      fixed = λ j. None;
+      kept = λ j. None;
+      frozen = frozen_in K cells;
+      to = no_targets;
+      privates = private_words it.it;
+      is_marked = false;
+      in_loop = false;
+      context = c;
     }
 
     abbrev body : Draft
@@ -139,10 +141,13 @@ module _ (p : Program) (accepted : IsAccepted p) where
         let Done = λ (v : ℤ) (w' : World) (m' : Machine). Came p C (scene K cells0 c) v w' m' in
         word_goes p C K V words words (λ j cell e. absurd cc) c.turns 0 ps ps [] (pos 0 ∷ []) cells w m (Const (pos 0)) body.lines (Gives (pos 0) w) Done has_zero.lines at refl
         (λ m' at'.
-          let d = call_at (length last.lines) ps (pos 0 ∷ []) in
-          let back = returns_back C K d d at'.memory (pos 0) (ap (λ word. wants_of word d) (word_stands C V 1 Ret last.lines has_ret.lines)) in
-          record { steps = 1; enough = omega arith;
-            holds = record { memory = at'.memory; back = subst (λ q. Back C K (pos 0) at'.memory (machine_step C q)) (sym at'.is) back; world = at'.world; room = at'.room; cells_are = λ cs e a. at'.cells_are a ∙ holds.freezes cs e } })
+        let d = call_at (length last.lines) ps (pos 0 ∷ []) in
+        let back = returns_back C K d d at'.memory (pos 0) (ap (λ word. wants_of word d) (word_stands C V 1 Ret last.lines has_ret.lines)) in
+        record {
+          steps = 1;
+          enough = omega arith;
+          holds = record { memory = at'.memory; back = subst (λ q. Back C K (pos 0) at'.memory (machine_step C q)) (sym at'.is) back; world = at'.world; room = at'.room; cells_are = λ cs e a. at'.cells_are a ∙ holds.freezes cs e };
+        })
 
     ended : (K : Ground) (cells0 : List ℤ) (c : Context) (exit : Exit) (env : Environment) (w : World) (m : Machine) → EndsBy p C (scene K cells0 c) [] (length body.lines) exit env w m
         → Follows C c.turns m (Gives (returned exit) w) (λ v w' m'. Came p C (scene K cells0 c) v w' m')
@@ -164,8 +169,17 @@ module _ (p : Program) (accepted : IsAccepted p) where
         let count : length xs ≡ length vs = it.parameters_are ∙ sym many in
         let scope : Map ℕ = numbered xs 0 in
         let fair : Fair p C s = record {
-          globals = words; carries = λ j cell e. absurd cc; active = active; marked = λ e. absurd cc; loose = λ e j. (refl, refl); thawed = thaws K cells;
-          apart = λ i j cell e f. absurd cc; small = λ j cell e. absurd cc; still = λ cs e j. refl; few = few; calls = calls;
+          globals = words;
+          carries = λ j cell e. absurd cc;
+          active = active;
+          marked = λ e. absurd cc;
+          loose = λ e j. (refl, refl);
+          thawed = thaws K cells;
+          apart = λ i j cell e f. absurd cc;
+          small = λ j cell e. absurd cc;
+          still = λ cs e j. refl;
+          few = few;
+          calls = calls;
         } in
         let tidy : Tidy (length xs) (scope ∷ []) = params_tidy xs in
         let around : Around p (scope ∷ []) (at_start (kinds_of p) it.it) = record { kinds = refl; names = ap (λ l. l ∷ []) (names_numbered xs 0) } in
@@ -175,7 +189,7 @@ module _ (p : Program) (accepted : IsAccepted p) where
         subst (λ env. Follows C c.turns m ((effects it.it.body c env >>= (λ out. gives (returned out.0))) w) Done) (sym env_is)
         (follows_then C c.turns m (effects it.it.body c (env_of (scope ∷ []) (held s ps cells)) w) (λ out. gives (returned out.0)) (PartsEnd p C words s [] (length body.lines)) Done
         (parts_follow p C words it.it.body s fair (scope ∷ []) [] (scope, refl) (at_start (kinds_of p) it.it) around (λ e. absurd cc) (length xs) tidy (omega arith) function_ok.body
-          (λ j e. refl) (λ j e. (refl, refl)) (λ j e. (refl, refl)) it_stands.before (has_body C F C.globals it_stands.before it_stands.stands) ps cells holds w m at)
+        (λ j e. refl) (λ j e. (refl, refl)) (λ j e. (refl, refl)) it_stands.before (has_body C F C.globals it_stands.before it_stands.stands) ps cells holds w m at)
         (λ out w' m' ends. ended K cells c out.0 _ w' m' ends))
 
   -- ---- calls

@@ -1,8 +1,7 @@
 -- The private words that a region takes along, in their cells and in its iterations.
-use Rattle.std.proofs.Common.{◌≡◌, ℕ, zero, suc, ◌+◌, ◌≤◌, ◌<◌, Bool, true, false, List, [], ◌∷◌, ◌++◌, length, drop, Option, Some, None, ℤ, pos, refl, sym, ap, subst, ◌∙◌, arith, if◌then◌else◌, length-set, get_or-set_other, get_or-set_same, ⊎_elim}
+use Rattle.std.proofs.Common.{◌≡◌, ℕ, zero, suc, ◌+◌, ◌≤◌, ◌<◌, Bool, true, false, List, [], ◌∷◌, length, Some, None, ℤ, pos, refl, sym, ap, subst, ◌∙◌, arith, if◌then◌else◌, length-set, get_or-set_other, get_or-set_same, ⊎_elim}
 use Rattle.std.specs.Prelude.{nat_eq, slice_set, slice_index_or, filter}
 use Rattle.std.specs.List.{range_with_len}
-use Rattle.std.proofs.lemmas.List.{drop-set-add}
 use Rattle.std.proofs.lemmas.Bool.{cases_lt}
 use Rattle.std.proofs.lemmas.Bool.Decides.{Decides-eqb}
 use Rattle.hx_code.specs.declared.table.Carried.{Carried}
@@ -81,6 +80,7 @@ carried_found test k a (suc n) c t le lt =
   where
     rest : List ℕ
     rest = filter test (range_with_len (a + 1) n)
+
     go : (b : Bool) → test a ≡ b → (nat_eq a k ≡ false → Found k (c + 1) (c + 1 + n) (filter test (range_with_len (a + 1) n))) → (nat_eq a k ≡ false → Found k c (c + n) (filter test (range_with_len (a + 1) n)))
         → Found k c (c + suc n) (if b then a ∷ filter test (range_with_len (a + 1) n) else filter test (range_with_len (a + 1) n))
     go true e one other =
@@ -141,6 +141,7 @@ into_at g (j ∷ ks) c ps st k d h room =
   where
     st' : List ℤ
     st' = slice_set st (g + c) (slice_index_or ps j (pos 0))
+
     go : (b : Bool) → nat_eq j k ≡ b → (if b then Some c else cell_of (cells_from ks (c + 1)) k) ≡ Some d
         → (cell_of (cells_from ks (c + 1)) k ≡ Some d → slice_index_or (into_cells g (cells_from ks (c + 1)) ps st') (g + d) (pos 0) ≡ slice_index_or ps k (pos 0))
         → slice_index_or (into_cells g (cells_from ks (c + 1)) ps st') (g + d) (pos 0) ≡ slice_index_or ps k (pos 0)
@@ -164,6 +165,7 @@ from_other g (j ∷ ks) c st ps k h = go (nat_eq j k) refl h (from_other g ks (c
   where
     ps' : List ℤ
     ps' = slice_set ps j (slice_index_or st (g + c) (pos 0))
+
     go : (b : Bool) → nat_eq j k ≡ b → (if b then Some c else cell_of (cells_from ks (c + 1)) k) ≡ None
         → (cell_of (cells_from ks (c + 1)) k ≡ None → slice_index_or (from_cells g (cells_from ks (c + 1)) st ps') k (pos 0) ≡ slice_index_or ps' k (pos 0))
         → slice_index_or (from_cells g (cells_from ks (c + 1)) st ps') k (pos 0) ≡ slice_index_or ps k (pos 0)
@@ -178,6 +180,7 @@ from_at g (j ∷ ks) n c st ps k d h rises lt =
   where
     ps' : List ℤ
     ps' = slice_set ps j (slice_index_or st (g + c) (pos 0))
+
     go : (b : Bool) → nat_eq j k ≡ b → (if b then Some c else cell_of (cells_from ks (c + 1)) k) ≡ Some d
         → (cell_of (cells_from ks (c + 1)) k ≡ Some d → slice_index_or (from_cells g (cells_from ks (c + 1)) st ps') k (pos 0) ≡ slice_index_or st (g + d) (pos 0))
         → slice_index_or (from_cells g (cells_from ks (c + 1)) st ps') k (pos 0) ≡ slice_index_or st (g + d) (pos 0)
@@ -213,6 +216,7 @@ copied_at test k a (suc n) from to t le lt room =
   where
     to' : List ℤ
     to' = slice_set to a (slice_index_or from a (pos 0))
+
     go : (b : Bool) → test a ≡ b
         → (nat_eq a k ≡ false → slice_index_or (copied_words (filter test (range_with_len (a + 1) n)) from to') k (pos 0) ≡ slice_index_or from k (pos 0))
         → (nat_eq a k ≡ false → slice_index_or (copied_words (filter test (range_with_len (a + 1) n)) from to) k (pos 0) ≡ slice_index_or from k (pos 0))

@@ -1,17 +1,17 @@
 -- Which private words a statement declares, and what declarations come to among statements.
-use Rattle.std.proofs.Common.{◌≡◌, ℕ, zero, suc, ◌+◌, ◌≤◌, ◌<◌, Bool, true, false, List, [], ◌∷◌, length, Option, Some, None, refl, sym, ap, ◌∙◌, arith}
+use Rattle.std.proofs.Common.{◌≡◌, ℕ, ◌+◌, ◌<◌, Bool, true, false, List, [], ◌∷◌, length, refl, sym, ap, ◌∙◌, arith}
 use Rattle.std.specs.Prelude.{nat_eq, ◌||◌, ◌&&◌}
 use Rattle.std.proofs.lemmas.Bool.Decides.{Decides-eqb}
 use Rattle.hx_tree.specs.Tree as tree
 use Rattle.hx_tree.specs.World.{Map}
-use Rattle.hx_tree.specs.Accepted.{init_locals, stmt_locals, part_locals, parts_locals}
+use Rattle.hx_tree.specs.Accepted.{init_locals, stmt_locals}
 use Rattle.hx_check.specs.declared.symbol.Symbol.{Symbol}
 use Rattle.hx_check.specs.Resolved as resolved
 use Rattle.hx_check.specs.Symbols.{Scopes, with_word, with_words, words_after_init}
-use Rattle.hx_check.specs.Carried.{stmt_reads, stmts_read, stmt_assigns, stmts_assign, stmt_declares, stmts_declare, simple_reads, simple_assigns, simple_declares, any_of}
-use Rattle.hx_check.specs.Resolve.{Around, resolve_stmt, resolve_parts, resolve_locals, resolve_init, simples_then, words_after_part, expr_or_zero}
+use Rattle.hx_check.specs.Carried.{stmts_read, stmts_assign, stmt_declares, stmts_declare, simple_reads, simple_assigns, simple_declares, any_of}
+use Rattle.hx_check.specs.Resolve.{Around, resolve_stmt, resolve_parts, resolve_locals, resolve_init, simples_then}
 use Rattle.hx_lowering.specs.Lines.{Version, simples_lines}
-use Rattle.hx_lowering.specs.Draft.{Draft, Targets, with_lines, stmt_draft, stmts_draft}
+use Rattle.hx_lowering.specs.Draft.{Draft, Targets, with_lines, stmts_draft}
 
 or_assoc : (a b c : Bool) → ((a || b) || c) ≡ (a || (b || c))
 or_assoc true b c = refl
@@ -34,7 +34,6 @@ assigns_then (s ∷ ss) rest j = or_assoc (simple_assigns j s) (any_of (simple_a
 pub declares_then : (ss : List resolved.Simple) (rest : resolved.Stmts) (j : ℕ) → (any_of (simple_declares j) ss || stmts_declare j rest) ≡ stmts_declare j (simples_then ss rest)
 declares_then [] rest j = refl
 declares_then (s ∷ ss) rest j = or_assoc (simple_declares j s) (any_of (simple_declares j) ss) (stmts_declare j rest) ∙ ap (λ b. simple_declares j s || b) (declares_then ss rest j)
-
 
 pub draft_then : (ss : List resolved.Simple) (rest : resolved.Stmts) (v : Version) (to : Targets) (d : Draft) → stmts_draft (simples_then ss rest) v to d ≡ stmts_draft rest v to (with_lines d (simples_lines ss v d.lines))
 draft_then [] rest v to d = refl

@@ -1,5 +1,5 @@
 -- A call of a function: one call deeper, or too deep.
-use Rattle.std.proofs.Common.{◌≡◌, ℕ, zero, suc, ◌+◌, ◌-◌, ◌≤◌, ◌<◌, Bool, true, false, List, [], ◌∷◌, ◌++◌, length, drop, Option, Some, None, ℤ, pos, refl, sym, ap, subst, ◌∙◌, arith, if◌then◌else◌}
+use Rattle.std.proofs.Common.{◌≡◌, ℕ, suc, ◌+◌, true, false, ◌∷◌, ◌++◌, length, Some, None, refl, sym, ap, subst, ◌∙◌, arith}
 use Rattle.std.specs.Prelude.{nat_le, slice_get}
 use Rattle.hx_tree.specs.declared.token.Pos.{Pos}
 use Rattle.hx_tree.specs.declared.outcome.FaultKind.TheVariants.{CallTooDeep}
@@ -10,8 +10,8 @@ use Rattle.hx_code.specs.Code.{CodeView, FuncView}
 use Rattle.hx_code.specs.Call.{CallView, Asks, wants_at, fault_at}
 use Rattle.hx_code.specs.Local.{LocalView, LocalAsks, called, callee, without_arguments, opened, with_calls}
 use Rattle.hx_code.specs.Region.{region_want}
-use Rattle.hx_code.specs.Machine.{Machine, machine_step, does_want}
-use Rattle.hx_lowering.proofs.Setting.{Memory, Ended, Opener, opened_so, Ground, Outside, Inside, setting_of, is_active, at_outside, at_inside, outside_does, inside_does, outside_ended, inside_ended, iteration_local, at_iteration, then_so, chosen, passed}
+use Rattle.hx_code.specs.Machine.{machine_step, does_want}
+use Rattle.hx_lowering.proofs.Setting.{Memory, Ended, opened_so, Ground, Outside, Inside, setting_of, is_active, at_outside, at_inside, outside_does, inside_does, outside_ended, inside_ended, iteration_local, at_iteration, then_so, chosen, passed}
 
 -- the depth of a call
 abbrev pub depth_of : Ground → ℕ

@@ -1,14 +1,14 @@
 -- Drafts that stand in code, and how long they are.
-use Rattle.std.proofs.Common.{◌≡◌, ℕ, zero, suc, ◌+◌, ◌≤◌, List, [], ◌∷◌, ◌++◌, length, Option, Some, None, pos, refl, sym, ap, subst, ◌∙◌, arith, append_assoc}
+use Rattle.std.proofs.Common.{◌≡◌, ℕ, ◌+◌, List, [], ◌∷◌, ◌++◌, length, Option, Some, None, ◌∙◌, arith, append_assoc}
 use Rattle.hx_check.specs.Resolved as resolved
 use Rattle.hx_check.specs.Resolved.{Expr, Exprs, Assignment, Simple, Clauses, LoopKind, Stmt, Stmts}
 use Rattle.hx_code.specs.declared.word.Word.{Word}
 use Rattle.hx_code.specs.declared.word.Word.TheVariants.{Glob, SetGlob, Elem, SetElem, Dup, Drop, Binary, Jump, JumpFalse, Call, Ret, Print, Emit, Enter, Turn, Leave}
 use Rattle.hx_code.specs.Code.{CodeView, RegionView}
 use Rattle.hx_lowering.specs.declared.line.Line.{Line}
-use Rattle.hx_lowering.specs.Size.{expr_size, exprs_size, assignment_size, simple_size, simples_size, test_size, step_size, turn_size, loop_size, stmt_size, stmts_size}
+use Rattle.hx_lowering.specs.Size.{expr_size, assignment_size, simple_size, simples_size, test_size, step_size, turn_size, loop_size, stmt_size, stmts_size}
 use Rattle.hx_lowering.specs.Lines.{Version, put, get_private, set_private, array_of, count, expr_lines, exprs_lines, assignment_lines, simple_lines, simples_lines, test_lines, step_lines}
-use Rattle.hx_lowering.specs.Draft.{Draft, Targets, with_lines, put_word, inside, targets, turn_draft, plain_draft, turns_draft, region_at, region_draft, loop_draft, stmt_draft, stmts_draft}
+use Rattle.hx_lowering.specs.Draft.{Draft, Targets, with_lines, put_word, inside, targets, turn_draft, plain_draft, turns_draft, region_draft, loop_draft, stmt_draft, stmts_draft}
 use Rattle.hx_lowering.proofs.Stand.{Has, has_before, has_expr, has_exprs, length-put, length-expr, length-exprs}
 
 -- the code begins with this draft's lines and regions

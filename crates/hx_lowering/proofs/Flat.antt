@@ -1,12 +1,12 @@
 -- A statement that stands in a marked loop has no region.
-use Rattle.std.proofs.Common.{◌≡◌, ℕ, ◌+◌, Bool, true, false, List, [], ◌∷◌, refl, ◌∙◌}
+use Rattle.std.proofs.Common.{◌≡◌, ℕ, ◌+◌, true, false, List, [], ◌∷◌, refl, ◌∙◌}
 use Rattle.hx_tree.specs.Tree as tree
 use Rattle.hx_tree.specs.World.{Map}
 use Rattle.hx_tree.specs.Accepted.{init_locals, stmt_locals, part_locals}
 use Rattle.hx_check.specs.declared.symbol.Symbol.{Symbol}
 use Rattle.hx_check.specs.Resolved as resolved
 use Rattle.hx_check.specs.Symbols.{Scopes, words_after_init}
-use Rattle.hx_check.specs.Resolve.{Around, resolve_stmt, resolve_parts, resolve_part_then, resolve_locals, simples_then, words_after_part}
+use Rattle.hx_check.specs.Resolve.{Around, resolve_stmt, resolve_parts, resolve_locals, simples_then, words_after_part}
 use Rattle.hx_lowering.specs.Lines.{Version}
 use Rattle.hx_lowering.specs.Draft.{Draft, Targets, stmt_draft, stmts_draft}
 

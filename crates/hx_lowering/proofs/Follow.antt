@@ -1,9 +1,9 @@
 -- A machine that follows a part of a program.
-use Rattle.std.proofs.Common.{◌≡◌, ℕ, zero, suc, ◌+◌, ◌≤◌, Option, Some, None, refl, sym, ap, subst, ◌∙◌, arith}
+use Rattle.std.proofs.Common.{◌≡◌, ℕ, zero, suc, ◌+◌, ◌≤◌, None, refl, sym, ap, subst, ◌∙◌, arith}
 use Rattle.hx_tree.specs.declared.outcome.Fault.{Fault}
 use Rattle.hx_tree.specs.declared.outcome.End.TheVariants as end
 use Rattle.hx_tree.specs.World.{World, Answer, Gives, Faults, Unfinished, Run, and_then}
-use Rattle.hx_tree.specs.Meaning.{Ending, ending}
+use Rattle.hx_tree.specs.Meaning.{ending}
 use Rattle.hx_code.specs.Code.{CodeView}
 use Rattle.hx_code.specs.Machine.{Machine, machine_step, machine_after}
 use Rattle.hx_lowering.specs.Correct.{Shows}

@@ -1,7 +1,6 @@
 -- Functions by their names and by their numbers, and where their words stand.
-use Rattle.std.proofs.Common.{◌≡◌, ℕ, zero, suc, ◌+◌, ◌≤◌, ◌<◌, Bool, true, false, List, [], ◌∷◌, ◌++◌, length, map, Option, Some, None, pos, refl, sym, ap, subst, ◌∙◌, arith, if◌then◌else◌, length-append, append_assoc}
+use Rattle.std.proofs.Common.{◌≡◌, ℕ, suc, ◌+◌, Bool, true, false, List, [], ◌∷◌, ◌++◌, length, map, Some, refl, sym, ap, subst, ◌∙◌, arith, if◌then◌else◌}
 use Rattle.std.specs.Prelude.{bytes_eq, flat_map, find, slice_get, slice_index_or}
-use Rattle.std.proofs.lemmas.Option.{slice_get_within}
 use Rattle.hx_tree.specs.declared.tree.Returns.{Returns}
 use Rattle.hx_tree.specs.Tree.{Program, Item, Globals, Function, Func, GlobalDecl, param_names}
 use Rattle.hx_tree.specs.World.{Map, look_up}
@@ -9,13 +8,7 @@ use Rattle.hx_tree.specs.Meaning.{item_functions, functions_of, function_named}
 use Rattle.hx_tree.specs.Accepted.{Kind, IntKind, ArrayKind, FunctionKind, item_kinds, kind_of_shape, kinds_of}
 use Rattle.hx_check.specs.declared.symbol.Symbol.{Symbol}
 use Rattle.hx_check.specs.declared.symbol.Symbol.TheVariants as symbol
-use Rattle.hx_check.specs.Resolved as resolved
 use Rattle.hx_check.specs.Symbols.{symbol_at, global_symbols, items_symbols, symbols_of}
-use Rattle.hx_code.specs.declared.word.Word.TheVariants.{Const, Ret}
-use Rattle.hx_code.specs.Code.{CodeView, FuncView}
-use Rattle.hx_lowering.specs.Lines.{Version}
-use Rattle.hx_lowering.specs.Draft.{Draft, Targets, put_word, no_targets, plain_version, function_at, function_draft, functions_draft, stmt_draft, stmts_draft}
-use Rattle.hx_lowering.proofs.Drafts.{HasDraft, has_word, has_stmts}
 
 -- ---- by name and by number
 
@@ -49,9 +42,13 @@ past_globals (g ∷ gs) a f x r k ks ss fs next h = go (past_globals gs _ f x r 
     go more false e h =
         let i = more h in
         record {
-          number = i.number; it = i.it;
+          number = i.number;
+          it = i.it;
           symbol_is = ap (λ b. if b then Some (symbol_at g.shape a) else look_up (global_symbols gs (a + Rattle.hx_tree.specs.Accepted.shape_words g.shape) ++ ss) x) e ∙ i.symbol_is;
-          at = i.at; named = i.named; returns_is = i.returns_is; parameters_are = i.parameters_are;
+          at = i.at;
+          named = i.named;
+          returns_is = i.returns_is;
+          parameters_are = i.parameters_are;
         }
 
 items_function : (is : List Item) (a f : ℕ) (x : List ℕ) (r : Returns) (k : ℕ) → look_up (flat_map item_kinds is) x ≡ Some (FunctionKind r k) → IsFunction x (flat_map item_functions is) (items_symbols is a f) f r k
@@ -72,22 +69,26 @@ items_function (Function g ∷ is) a f x r k h = go (items_function is (a + 0) (
         let ks : length (param_names g.params) ≡ k = cc in
         let zero_on : f + 0 ≡ f = omega arith in
         record {
-          number = 0; it = g;
+          number = 0;
+          it = g;
           symbol_is = ap (λ b. if b then Some (symbol.Function f g.returns (length (param_names g.params))) else look_up (items_symbols is (a + 0) (f + 1)) x) e
-            ∙ ap (λ r'. Some (symbol.Function f r' (length (param_names g.params)))) rs ∙ ap (λ k'. Some (symbol.Function f r k')) ks ∙ ap (λ n. Some (symbol.Function n r k)) (sym zero_on);
+              ∙ ap (λ r'. Some (symbol.Function f r' (length (param_names g.params)))) rs ∙ ap (λ k'. Some (symbol.Function f r k')) ks ∙ ap (λ n. Some (symbol.Function n r k)) (sym zero_on);
           at = refl;
           named = ap (λ b. if b then Some g else function_named x (flat_map item_functions is)) e;
-          returns_is = rs; parameters_are = ks;
+          returns_is = rs;
+          parameters_are = ks;
         }
     go more false e h =
         let i = more h in
         let on : f + 1 + i.number ≡ f + suc i.number = omega arith in
         record {
-          number = suc i.number; it = i.it;
+          number = suc i.number;
+          it = i.it;
           symbol_is = ap (λ b. if b then Some (symbol.Function f g.returns (length (param_names g.params))) else look_up (items_symbols is (a + 0) (f + 1)) x) e ∙ i.symbol_is ∙ ap (λ n. Some (symbol.Function n r k)) on;
           at = i.at;
           named = ap (λ b. if b then Some g else function_named x (flat_map item_functions is)) e ∙ i.named;
-          returns_is = i.returns_is; parameters_are = i.parameters_are;
+          returns_is = i.returns_is;
+          parameters_are = i.parameters_are;
         }
 
 -- a function of a program

@@ -1,10 +1,10 @@
 -- The globals of a program, and the words that they take in a store.
-use Rattle.std.proofs.Common.{◌≡◌, ℕ, zero, suc, ◌+◌, ◌≤◌, ◌-◌, ◌<◌, Bool, true, false, List, [], ◌∷◌, ◌++◌, length, take, drop, Option, Some, None, ℤ, pos, refl, sym, ap, subst, ◌∙◌, arith, if◌then◌else◌}
-use Rattle.std.specs.Prelude.{bytes_eq, slice_set, slice_get, nat_lt, option_map, flat_map}
+use Rattle.std.proofs.Common.{◌≡◌, ℕ, ◌+◌, ◌≤◌, ◌-◌, ◌<◌, Bool, true, false, List, [], ◌∷◌, ◌++◌, length, take, drop, Option, Some, None, ℤ, pos, refl, sym, ap, subst, ◌∙◌, arith, if◌then◌else◌}
+use Rattle.std.specs.Prelude.{bytes_eq, slice_set, option_map, flat_map}
 use Rattle.std.proofs.lemmas.List.{take-set-le, drop-set-lt, drop-set-add, length-take, length-drop, take-append-drop, take-take, drop-take, drop-drop}
 use Rattle.std.proofs.Math.Seq.{take-set-lt}
 use Rattle.std.proofs.lemmas.Bool.{lt-ltb}
-use Rattle.hx_tree.specs.World.{Map, look_up, set_word, with_word, words_of}
+use Rattle.hx_tree.specs.World.{Map, look_up, set_word, with_word}
 use Rattle.hx_check.specs.declared.resolved.Words.{Words}
 
 -- the globals with how many words each has
@@ -75,8 +75,8 @@ written ((y, n) ∷ rest) a st x w i v h room lt =
         → (place_of rest (a + n) x ≡ Some w → (a + n ≤ w.base) × (w.base + w.length ≤ a + n + words_in rest))
         → (t : Bool) → (if t then Some (record { base = a; length = n }) else place_of rest (a + n) x) ≡ Some w
         → (if t then option_map (λ words'. (y, words') ∷ store_from rest (a + n) st) (with_word (take n (drop a st)) (pos i) v)
-           else option_map (λ rest'. (y, take n (drop a st)) ∷ rest') (set_word (store_from rest (a + n) st) x (pos i) v))
-          ≡ Some (store_from ((y, n) ∷ rest) a (slice_set st (w.base + i) v))
+        else option_map (λ rest'. (y, take n (drop a st)) ∷ rest') (set_word (store_from rest (a + n) st) x (pos i) v))
+        ≡ Some (store_from ((y, n) ∷ rest) a (slice_set st (w.base + i) v))
     go next within true e =
         let p : record { base = a; length = n } ≡ w = cc in
         let q : a ≡ w.base = ap (λ (v : Words). v.base) p in

@@ -1,11 +1,11 @@
 -- What a name of an accepted program stands for, and where it lies.
-use Rattle.std.proofs.Common.{◌≡◌, ℕ, zero, suc, ◌+◌, ◌≤◌, Bool, true, false, List, [], ◌∷◌, ◌++◌, length, map, Option, Some, None, refl, sym, ap, subst, ◌∙◌, arith, if◌then◌else◌, add_assoc}
+use Rattle.std.proofs.Common.{◌≡◌, ℕ, ◌+◌, Bool, true, false, List, [], ◌∷◌, ◌++◌, length, map, Option, Some, None, refl, sym, ap, subst, ◌∙◌, arith, if◌then◌else◌, add_assoc}
 use Rattle.std.specs.Prelude.{bytes_eq, flat_map, sum_by}
 use Rattle.std.proofs.lemmas.List.{map-append}
 use Rattle.std.proofs.lemmas.List.Sums.{sum_by-cons}
 use Rattle.hx_tree.specs.Tree.{Program, Item, Globals, Function, GlobalDecl, Shape, Scalar, Array, param_names}
 use Rattle.hx_tree.specs.World.{Map, look_up}
-use Rattle.hx_tree.specs.Meaning.{item_globals, item_functions}
+use Rattle.hx_tree.specs.Meaning.{item_globals}
 use Rattle.hx_tree.specs.Accepted.{Kind, IntKind, ArrayKind, FunctionKind, item_kinds, kind_of_shape, kinds_of, shape_words}
 use Rattle.hx_check.specs.declared.resolved.Words.{Words}
 use Rattle.hx_check.specs.declared.symbol.Symbol.{Symbol}
@@ -37,14 +37,14 @@ globals_agree : (gs : List GlobalDecl) (a : ℕ) (x : List ℕ) (ks : Map Kind) 
 globals_agree [] a x ks ss lay h = let e : a + 0 ≡ a = omega arith in subst (λ b. Agree (look_up ks x) (look_up ss x) (place_of lay b x)) e h
 globals_agree (g ∷ gs) a x ks ss lay h =
     go (globals_agree gs (a + shape_words g.shape) x ks ss lay
-      (subst (λ b. Agree (look_up ks x) (look_up ss x) (place_of lay b x)) (ap (λ n. a + n) (sum_by-cons (λ g. shape_words g.shape) g gs) ∙ sym (add_assoc a (shape_words g.shape) (sum_by (λ g. shape_words g.shape) gs))) h))
+    (subst (λ b. Agree (look_up ks x) (look_up ss x) (place_of lay b x)) (ap (λ n. a + n) (sum_by-cons (λ g. shape_words g.shape) g gs) ∙ sym (add_assoc a (shape_words g.shape) (sum_by (λ g. shape_words g.shape) gs))) h))
     (bytes_eq g.name.text x)
   where
     go : Agree (look_up (map kind_entry gs ++ ks) x) (look_up (global_symbols gs (a + shape_words g.shape) ++ ss) x) (place_of (map entry gs ++ lay) (a + shape_words g.shape) x)
         → (b : Bool)
         → Agree (if b then Some (kind_of_shape g.shape) else look_up (map kind_entry gs ++ ks) x)
-          (if b then Some (symbol_at g.shape a) else look_up (global_symbols gs (a + shape_words g.shape) ++ ss) x)
-          (if b then Some (record { base = a; length = shape_words g.shape }) else place_of (map entry gs ++ lay) (a + shape_words g.shape) x)
+        (if b then Some (symbol_at g.shape a) else look_up (global_symbols gs (a + shape_words g.shape) ++ ss) x)
+        (if b then Some (record { base = a; length = shape_words g.shape }) else place_of (map entry gs ++ lay) (a + shape_words g.shape) x)
     go next true = shape_agrees g.shape a
     go next false = next
 
@@ -62,8 +62,8 @@ items_agree (Function g ∷ is) a f x = go (items_agree is (a + 0) (f + 1) x) (b
     go : Agree (look_up (flat_map item_kinds is) x) (look_up (items_symbols is (a + 0) (f + 1)) x) (place_of (layout_of_items is) (a + 0) x)
         → (b : Bool)
         → Agree (if b then Some (FunctionKind g.returns (length (param_names g.params))) else look_up (flat_map item_kinds is) x)
-          (if b then Some (symbol.Function f g.returns (length (param_names g.params))) else look_up (items_symbols is (a + 0) (f + 1)) x)
-          (place_of (layout_of_items is) a x)
+        (if b then Some (symbol.Function f g.returns (length (param_names g.params))) else look_up (items_symbols is (a + 0) (f + 1)) x)
+        (place_of (layout_of_items is) a x)
     go next true = (f, refl)
     go next false = let e : a + 0 ≡ a = omega arith in
         subst (λ b. Agree (look_up (flat_map item_kinds is) x) (look_up (items_symbols is (a + 0) (f + 1)) x) (place_of (layout_of_items is) b x)) e next

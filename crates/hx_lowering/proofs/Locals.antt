@@ -1,11 +1,9 @@
 -- Private words that scopes name: each but once, and all below the next one.
-use Rattle.std.proofs.Common.{◌≡◌, ℕ, zero, suc, ◌+◌, ◌≤◌, ◌<◌, Bool, true, false, List, [], ◌∷◌, ◌++◌, length, Option, Some, None, ℤ, pos, refl, sym, ap, subst, ◌∙◌, arith, if◌then◌else◌, ⊎_elim}
-use Rattle.std.specs.Prelude.{bytes_eq, is_some, option_map, zip, map, slice_index_or}
+use Rattle.std.proofs.Common.{◌≡◌, ℕ, ◌+◌, ◌≤◌, ◌<◌, Bool, true, false, List, [], ◌∷◌, ◌++◌, Option, Some, None, ℤ, refl, sym, ap, subst, ◌∙◌, arith, if◌then◌else◌, ⊎_elim}
+use Rattle.std.specs.Prelude.{bytes_eq, is_some}
 use Rattle.std.proofs.lemmas.Bool.{cases_lt}
-use Rattle.hx_tree.specs.Tree.{Name, LocalDecl}
-use Rattle.hx_tree.specs.World.{Map, look_up, update, Environment, local_value, set_local, declare, first_of}
-use Rattle.hx_tree.specs.Meaning.{texts_of}
-use Rattle.hx_check.specs.Symbols.{Scopes, private_word, with_word, numbered}
+use Rattle.hx_tree.specs.World.{Map, look_up, update, set_local, declare, first_of}
+use Rattle.hx_check.specs.Symbols.{Scopes, private_word, with_word}
 use Rattle.hx_lowering.proofs.Names.{values_in, env_of}
 
 -- each of the numbers is below n

@@ -1,12 +1,12 @@
 -- The words of a loop do what its turns do.
-use Rattle.std.proofs.Common.{◌≡◌, ℕ, zero, suc, ◌+◌, ◌≤◌, ◌<◌, Bool, true, false, List, [], ◌∷◌, length, Option, Some, None, ℤ, pos, refl, sym, ap, subst, ◌∙◌, arith, if◌then◌else◌}
-use Rattle.std.specs.Prelude.{option_map, IsTrue, ◌||◌, ◌&&◌}
+use Rattle.std.proofs.Common.{◌≡◌, ℕ, ◌+◌, ◌≤◌, Bool, true, false, List, [], length, Option, Some, None, ℤ, pos, refl, sym, subst, arith, if◌then◌else◌}
+use Rattle.std.specs.Prelude.{option_map}
 use Rattle.hx_tree.specs.Numbers.{is_zero}
 use Rattle.hx_tree.specs.Tree as tree
 use Rattle.hx_tree.specs.Tree.{Program, Name}
-use Rattle.hx_tree.specs.World.{World, Answer, Gives, Faults, Unfinished, Run, and_then, ◌>>=◌, gives, Environment}
+use Rattle.hx_tree.specs.World.{World, Run, ◌>>=◌, Environment}
 use Rattle.hx_tree.specs.Value.{Calling, value}
-use Rattle.hx_tree.specs.Effect.{Exit, GoesOn, Breaks, Continues, Returns, Effect, Context, call_in, value_or, step_of, loop}
+use Rattle.hx_tree.specs.Effect.{Effect, Context, call_in, value_or, step_of, loop}
 use Rattle.hx_tree.specs.Accepted.{Surroundings, AcceptsExpr, AcceptsAssignment, IfThere}
 use Rattle.hx_check.specs.Resolved as resolved
 use Rattle.hx_check.specs.Resolved.{Clauses, Simple}
@@ -17,20 +17,19 @@ use Rattle.hx_code.specs.declared.word.Word.TheVariants.{Jump, JumpFalse}
 use Rattle.hx_code.specs.Code.{CodeView}
 use Rattle.hx_code.specs.Machine.{Machine}
 use Rattle.hx_lowering.specs.declared.line.Line.{Line}
-use Rattle.hx_lowering.specs.Lines.{Version, put, expr_lines, test_lines, step_lines}
-use Rattle.hx_lowering.specs.Size.{test_size, step_size, turn_size, stmt_size}
-use Rattle.hx_lowering.specs.Draft.{Draft, Targets, with_lines, put_word, targets, turn_draft, plain_draft, stmt_draft}
+use Rattle.hx_lowering.specs.Lines.{Version, expr_lines, test_lines, step_lines}
+use Rattle.hx_lowering.specs.Size.{turn_size, stmt_size}
+use Rattle.hx_lowering.specs.Draft.{Draft, Targets, with_lines, put_word, targets, plain_draft, stmt_draft}
 use Rattle.hx_lowering.proofs.Globals.{words_in}
 use Rattle.hx_lowering.proofs.Follow.{Follows, follows_then, follows_fewer, at_once}
-use Rattle.hx_lowering.proofs.Setting.{Ground}
 use Rattle.hx_lowering.proofs.Stand.{Has, has_before, word_stands, length-put}
 use Rattle.hx_lowering.proofs.At.{layout_of, At, at_place, turns_back}
 use Rattle.hx_lowering.proofs.Names.{env_of, Around}
 use Rattle.hx_lowering.proofs.Values.{Leaves, jump_follows}
-use Rattle.hx_lowering.proofs.Scene.{Scene, Fair, Stands, Holds, Came, EndsBy, Ends, held, turns_follow}
-use Rattle.hx_lowering.proofs.Assigns.{Free, Loose, value_here, assign_follows, Behind}
+use Rattle.hx_lowering.proofs.Scene.{Scene, Fair, Stands, Holds, Came, Ends, held, turns_follow}
+use Rattle.hx_lowering.proofs.Assigns.{Free, Loose, value_here, assign_follows}
 use Rattle.hx_lowering.proofs.Locals.{Tidy}
-use Rattle.hx_lowering.proofs.Drafts.{HasDraft, has_word, has_lines, has_step, has_test, has_stmt, length-test, length-step, length-stmt}
+use Rattle.hx_lowering.proofs.Drafts.{HasDraft, has_word, has_lines, has_step, has_stmt, length-test, length-step, length-stmt}
 
 module _ (p : Program) (code : CodeView) (words : code.globals ≡ words_in (layout_of p)) where
   module _ (s : Scene) (fair : Fair p code s) (next : ℕ) (scopes : Scopes) (tidy : Tidy next scopes) (fits : next ≤ s.privates) (here : Surroundings) (around : Around p scopes here) where
@@ -95,11 +94,11 @@ module _ (p : Program) (code : CodeView) (words : code.globals ≡ words_in (lay
       → (d : Draft) → HasDraft code (plain_draft (clauses_of scopes init test step) (stmt_size rb) (λ to d'. stmt_draft rb s.version to d') s.version d)
       → Fair p code (within s (targets (clauses_of scopes init test step) (stmt_size rb) (length d.lines)) marked c)
       → ((ps cells : List ℤ) → Holds s ps cells → (w : World) (m : Machine) → At p code s.ground (length (tested (clauses_of scopes init test step) (length d.lines + turn_size (clauses_of scopes init test step) (stmt_size rb) + 1) s.version d).lines) ps [] cells w m
-        → HasDraft code (stmt_draft rb s.version (targets (clauses_of scopes init test step) (stmt_size rb) (length d.lines)) (tested (clauses_of scopes init test step) (length d.lines + turn_size (clauses_of scopes init test step) (stmt_size rb) + 1) s.version d))
-        → Follows code c.turns m (body (env_of scopes (held s ps cells)) w) (Ends p code (within s (targets (clauses_of scopes init test step) (stmt_size rb) (length d.lines)) marked c) scopes (length (stmt_draft rb s.version (targets (clauses_of scopes init test step) (stmt_size rb) (length d.lines)) (tested (clauses_of scopes init test step) (length d.lines + turn_size (clauses_of scopes init test step) (stmt_size rb) + 1) s.version d)).lines)))
+      → HasDraft code (stmt_draft rb s.version (targets (clauses_of scopes init test step) (stmt_size rb) (length d.lines)) (tested (clauses_of scopes init test step) (length d.lines + turn_size (clauses_of scopes init test step) (stmt_size rb) + 1) s.version d))
+      → Follows code c.turns m (body (env_of scopes (held s ps cells)) w) (Ends p code (within s (targets (clauses_of scopes init test step) (stmt_size rb) (length d.lines)) marked c) scopes (length (stmt_draft rb s.version (targets (clauses_of scopes init test step) (stmt_size rb) (length d.lines)) (tested (clauses_of scopes init test step) (length d.lines + turn_size (clauses_of scopes init test step) (stmt_size rb) + 1) s.version d)).lines)))
       → (ps cells : List ℤ) → Holds s ps cells → (w : World) (m : Machine) → At p code s.ground (length d.lines) ps [] cells w m
       → Follows code c.turns m (loop c.turns counted (value_or (pos 1) test (call_in c)) body (step_of step (call_in c)) (env_of scopes (held s ps cells)) w)
-        (Ends p code s scopes (length (plain_draft (clauses_of scopes init test step) (stmt_size rb) (λ to d'. stmt_draft rb s.version to d') s.version d).lines))
+      (Ends p code s scopes (length (plain_draft (clauses_of scopes init test step) (stmt_size rb) (λ to d'. stmt_draft rb s.version to d') s.version d).lines))
   plain_follows s marked c next scopes tidy fits here around init test step rb body counted none ok_test ok_step free_test free_step loose_step d has fair hb ps cells holds w m at =
       let cs = clauses_of scopes init test step in
       let v = s.version in
@@ -126,9 +125,9 @@ module _ (p : Program) (code : CodeView) (words : code.globals ≡ words_in (lay
       (λ n le ps' cells' holds' w' m' at' f g kf kg. test_here si fair next scopes tidy fits here around test ok_test free_test n exit le ps' cells' d.lines has1.lines w' m' at' f g Done kf kg)
       (λ ps' cells' holds' w' m' at'. subst (λ q. Follows code c.turns m' (body (env_of scopes (held s ps' cells')) w') (Ends p code si scopes q)) at_step (hb ps' cells' (outer_holds ps' cells' holds') w' m' at' has2))
       (λ env' w' m' stands. step_here si fair next scopes tidy fits here around step ok_step free_step loose_step d2.lines has3.lines env' w' m'
-        (subst (λ q. Stands p code si scopes q env' w' m') (sym at_step) stands))
+      (subst (λ q. Stands p code si scopes q env' w' m') (sym at_step) stands))
       (λ n env' w' m' next stands k. turns_back p code s.ground n (length d3.lines) start stands.ps stands.ps [] [] stands.cells w' m' (Jump start) (next env' w') Done stands.at (word_stands code v 0 (Jump start) d3.lines has.lines) refl
-        (λ m'' at''. k stands.ps stands.cells stands.holds w' m'' at'' stands.env_is))
+      (λ m'' at''. k stands.ps stands.cells stands.holds w' m'' at'' stands.env_is))
       (λ n env' w' m' stands. at_once code m' (λ m''. Stands p code s scopes (length d4.lines) env' w' m'') (record { ps = stands.ps; cells = stands.cells; holds = outer_holds stands.ps stands.cells stands.holds; at = at_place p code s.ground exit (length d4.lines) stands.ps [] stands.cells w' m' at_exit stands.at; env_is = stands.env_is }))
       (λ n z env' w' m' came. at_once code m' (λ m''. Came p code s z w' m'') (record { memory = came.memory; back = came.back; world = came.world; room = came.room; cells_are = came.cells_are }))
       c.turns (omega arith) ps cells (inner ps cells holds) w m at)

@@ -1,6 +1,6 @@
 -- The words of a loop, marked or not, wherever it stands.
-use Rattle.std.proofs.Common.{◌≡◌, ℕ, zero, suc, ◌+◌, ◌≤◌, ◌<◌, Bool, true, false, List, [], ◌∷◌, ◌++◌, length, Option, Some, None, ℤ, pos, refl, sym, ap, subst, ◌∙◌, arith, if◌then◌else◌}
-use Rattle.std.specs.Prelude.{option_map, IsTrue, ◌||◌, ◌&&◌, not}
+use Rattle.std.proofs.Common.{◌≡◌, ℕ, ◌+◌, ◌≤◌, ◌<◌, Bool, true, false, List, [], length, Option, ℤ, pos, refl, sym, ap, subst, ◌∙◌, arith}
+use Rattle.std.specs.Prelude.{◌||◌, ◌&&◌, not}
 use Rattle.hx_tree.specs.Tree as tree
 use Rattle.hx_tree.specs.Tree.{Program, Name}
 use Rattle.hx_tree.specs.World.{World, Run, Environment}
@@ -8,29 +8,29 @@ use Rattle.hx_tree.specs.Effect.{Exit, Effect, Context, inside as inside_context
 use Rattle.hx_tree.specs.Accepted.{Surroundings, AcceptsExpr, AcceptsAssignment, IfThere}
 use Rattle.hx_check.specs.Resolved as resolved
 use Rattle.hx_check.specs.Resolved.{Clauses, Simple}
-use Rattle.hx_check.specs.Symbols.{Scopes, symbols_of}
+use Rattle.hx_check.specs.Symbols.{Scopes}
 use Rattle.hx_check.specs.Carried.{expr_reads, assignment_reads, assigns, if_any, turns_declare, region_of}
-use Rattle.hx_check.specs.Resolve.{Around as ResolveAround, kind_if}
+use Rattle.hx_check.specs.Resolve.{kind_if}
 use Rattle.hx_code.specs.declared.word.Word.TheVariants.{Enter}
 use Rattle.hx_code.specs.declared.word.Ask.TheVariants as ask
 use Rattle.hx_code.specs.Code.{CodeView}
 use Rattle.hx_code.specs.Call.{CallView, Asks, wants_of, wants_at}
 use Rattle.hx_code.specs.Machine.{Machine, machine_step}
 use Rattle.hx_lowering.specs.Lines.{Version}
-use Rattle.hx_lowering.specs.Size.{turn_size, test_size, stmt_size}
-use Rattle.hx_lowering.specs.Draft.{Draft, Targets, with_lines, put_word, inside, targets, plain_draft, turns_draft, region_at, region_draft, loop_draft, stmt_draft}
+use Rattle.hx_lowering.specs.Size.{turn_size, stmt_size}
+use Rattle.hx_lowering.specs.Draft.{Draft, Targets, inside, targets, plain_draft, turns_draft, region_at, loop_draft, stmt_draft}
 use Rattle.hx_lowering.proofs.Globals.{words_in}
 use Rattle.hx_lowering.proofs.Follow.{Follows, steps_to}
 use Rattle.hx_lowering.proofs.Setting.{Ground, Outside, Inside, Opener, is_active, enters_plain, setting_of}
 use Rattle.hx_lowering.proofs.Stand.{word_stands, length-put}
 use Rattle.hx_lowering.proofs.At.{layout_of, call_at, At, at_place}
 use Rattle.hx_lowering.proofs.Names.{env_of, Around}
-use Rattle.hx_lowering.proofs.Scene.{Scene, Fair, Stands, Holds, Ends, held}
+use Rattle.hx_lowering.proofs.Scene.{Scene, Fair, Holds, Ends, held}
 use Rattle.hx_lowering.proofs.Assigns.{Free, Loose}
 use Rattle.hx_lowering.proofs.Locals.{Tidy}
-use Rattle.hx_lowering.proofs.Drafts.{HasDraft, has_word, has_stmt, has_turns, has_plain, has_region, length-stmt, length-turns}
+use Rattle.hx_lowering.proofs.Drafts.{HasDraft, has_stmt, has_turns, has_plain, has_region, length-stmt, length-turns}
 use Rattle.hx_lowering.proofs.Loops.{tested, within, clauses_of, plain_follows}
-use Rattle.hx_lowering.proofs.Regions.{Flat, iteration_scene, outside_scene, entered, whole, region_opens, or_true}
+use Rattle.hx_lowering.proofs.Regions.{Flat, iteration_scene, entered, whole, region_opens, or_true}
 
 or_false : (b : Bool) → (b || false) ≡ b
 or_false true = refl
@@ -57,7 +57,7 @@ module _ (p : Program) (code : CodeView) (words : code.globals ≡ words_in (lay
       → (ps cells : List ℤ) → Holds s ps cells → (w : World) (m : Machine) → At p code s.ground (length (plain_tested cs rb s.version d).lines) ps [] cells w m
       → HasDraft code (stmt_draft rb s.version (plain_targets cs rb d) (plain_tested cs rb s.version d))
       → Follows code s.context.turns m (body (inside_context marked s.context) (env_of scopes (held s ps cells)) w)
-        (Ends p code (within p code words s (plain_targets cs rb d) (im || marked) (inside_context marked s.context)) scopes (length (stmt_draft rb s.version (plain_targets cs rb d) (plain_tested cs rb s.version d)).lines))
+      (Ends p code (within p code words s (plain_targets cs rb d) (im || marked) (inside_context marked s.context)) scopes (length (stmt_draft rb s.version (plain_targets cs rb d) (plain_tested cs rb s.version d)).lines))
 
   -- and in the turns of a region
   abbrev pub RegionBody : Scene → Bool → ℕ → Scopes → Clauses → resolved.Stmt → (Context → Environment → Effect) → Type 0
@@ -67,13 +67,12 @@ module _ (p : Program) (code : CodeView) (words : code.globals ≡ words_in (lay
       → (ps cells : List ℤ) → Holds (iteration_scene p code words s mk low o cs rb (plain_targets cs rb (entered p code words cs (stmt_size rb) s.version d)) (inside_context true s.context)) ps cells → (w : World) (m : Machine) → At p code (Inside o []) (length (plain_tested cs rb (inside o.region (region_of s.privates cs rb) s.version) (entered p code words cs (stmt_size rb) s.version d)).lines) ps [] cells w m
       → HasDraft code (stmt_draft rb (inside o.region (region_of s.privates cs rb) s.version) (plain_targets cs rb (entered p code words cs (stmt_size rb) s.version d)) (plain_tested cs rb (inside o.region (region_of s.privates cs rb) s.version) (entered p code words cs (stmt_size rb) s.version d)))
       → Follows code s.context.turns m (body (inside_context true s.context) (env_of scopes (held (iteration_scene p code words s mk low o cs rb (plain_targets cs rb (entered p code words cs (stmt_size rb) s.version d)) (inside_context true s.context)) ps cells)) w)
-        (Ends p code (iteration_scene p code words s mk low o cs rb (plain_targets cs rb (entered p code words cs (stmt_size rb) s.version d)) (inside_context true s.context)) scopes (length (stmt_draft rb (inside o.region (region_of s.privates cs rb) s.version) (plain_targets cs rb (entered p code words cs (stmt_size rb) s.version d)) (plain_tested cs rb (inside o.region (region_of s.privates cs rb) s.version) (entered p code words cs (stmt_size rb) s.version d))).lines))
+      (Ends p code (iteration_scene p code words s mk low o cs rb (plain_targets cs rb (entered p code words cs (stmt_size rb) s.version d)) (inside_context true s.context)) scopes (length (stmt_draft rb (inside o.region (region_of s.privates cs rb) s.version) (plain_targets cs rb (entered p code words cs (stmt_size rb) s.version d)) (plain_tested cs rb (inside o.region (region_of s.privates cs rb) s.version) (entered p code words cs (stmt_size rb) s.version d))).lines))
 
   module _ (s : Scene) (next : ℕ) (scopes : Scopes) (tidy : Tidy next scopes) (fits : next ≤ s.privates) (here : Surroundings) (around : Around p scopes here)
       (init : List Simple) (test : Option tree.Expr) (step : Option tree.Assignment) (rb : resolved.Stmt) (body : Context → Environment → Effect)
       (ok_test : IfThere AcceptsExpr test here) (ok_step : IfThere AcceptsAssignment step here)
       (free_test : Free s (λ k. if_any (expr_reads k) (clauses_of p code words scopes init test step).test)) (free_step : Free s (λ k. if_any (assignment_reads k) (clauses_of p code words scopes init test step).step)) (loose_step : Loose s (λ k. if_any (assigns k) (clauses_of p code words scopes init test step).step)) where
-
     abbrev meant : Bool → Environment → Run (Exit × Environment)
     meant marked env = loop s.context.turns (is_counted marked s.context) (value_or (pos 1) test (call_in (inside_context marked s.context))) (body (inside_context marked s.context)) (step_of step (call_in (inside_context marked s.context))) env
 
@@ -140,8 +139,8 @@ module _ (p : Program) (code : CodeView) (words : code.globals ≡ words_in (lay
       → (d : Draft) → HasDraft code (whole p code words (region_of s.privates (Cs scopes init test step) rb) (Cs scopes init test step) rb s.version d)
       → (ps cells : List ℤ) → Holds (record s { ground = g }) ps cells → (w : World) (m : Machine) → At p code g (length d.lines) ps [] cells w m
       → Follows code s.context.turns m
-        (loop s.context.turns (is_counted true s.context) (value_or (pos 1) test (call_in (inside_context true s.context))) (body (inside_context true s.context)) (step_of step (call_in (inside_context true s.context))) (env_of scopes (held s ps cells)) w)
-        (Ends p code (marked_scene (record s { ground = g }) false) scopes (length (whole p code words (region_of s.privates (Cs scopes init test step) rb) (Cs scopes init test step) rb s.version d).lines))
+      (loop s.context.turns (is_counted true s.context) (value_or (pos 1) test (call_in (inside_context true s.context))) (body (inside_context true s.context)) (step_of step (call_in (inside_context true s.context))) (env_of scopes (held s ps cells)) w)
+      (Ends p code (marked_scene (record s { ground = g }) false) scopes (length (whole p code words (region_of s.privates (Cs scopes init test step) rb) (Cs scopes init test step) rb s.version d).lines))
   region_loop (Inside o rest) s next scopes tidy fits here around init test step rb body ok_test ok_step free_test free_step loose_step fair flat declares hp mk hr d has ps cells holds w m at =
       active_loop (record s { ground = Inside o rest }) next scopes tidy fits here around init test step rb body ok_test ok_step free_test free_step loose_step o rest (region_of s.privates (Cs scopes init test step) rb) refl fair hp d has ps cells holds w m at
   region_loop (Outside rest) s next scopes tidy fits here around init test step rb body ok_test ok_step free_test free_step loose_step fair flat declares hp mk hr d has ps cells holds w m at =
@@ -149,9 +148,9 @@ module _ (p : Program) (code : CodeView) (words : code.globals ≡ words_in (lay
       let c = inside_context true s.context in
       let cs = Cs scopes init test step in
       subst (λ b. Follows code s.context.turns m (loop s.context.turns b (value_or (pos 1) test (call_in c)) (body c) (step_of step (call_in c)) (env_of scopes (held s ps cells)) w)
-        (Ends p code (marked_scene (record s { ground = Outside rest }) false) scopes (length (whole p code words (region_of s.privates cs rb) cs rb s.version d).lines))) (sym counted)
+      (Ends p code (marked_scene (record s { ground = Outside rest }) false) scopes (length (whole p code words (region_of s.privates cs rb) cs rb s.version d).lines))) (sym counted)
       (region_opens p code words (marked_scene s false) mk rest c next scopes tidy fits here around init test step rb (body c) ok_test ok_step flat declares d has fair (or_true s.context.is_active) fair.calls
-        (λ o number fair' ps' cells' holds' w' m' at' has'. hr d o number fair' ps' cells' holds' w' m' at' has') ps cells (record { long = holds.long; keeps = holds.keeps; freezes = holds.freezes }) w m at)
+      (λ o number fair' ps' cells' holds' w' m' at' has'. hr d o number fair' ps' cells' holds' w' m' at' has') ps cells (record { long = holds.long; keeps = holds.keeps; freezes = holds.freezes }) w m at)
 
   -- THE loops
   pub loop_follows : (marked im : Bool) (s : Scene) (next : ℕ) (scopes : Scopes) (tidy : Tidy next scopes) (fits : next ≤ s.privates) (here : Surroundings) (around : Around p scopes here)
@@ -165,8 +164,8 @@ module _ (p : Program) (code : CodeView) (words : code.globals ≡ words_in (lay
       → (d : Draft) → HasDraft code (loop_draft (kind_if (marked && not im) s.privates (Cs scopes init test step) rb) (Cs scopes init test step) (stmt_size rb) (λ v to d'. stmt_draft rb v to d') s.version d)
       → (ps cells : List ℤ) → Holds s ps cells → (w : World) (m : Machine) → At p code s.ground (length d.lines) ps [] cells w m
       → Follows code s.context.turns m
-        (loop s.context.turns (is_counted marked s.context) (value_or (pos 1) test (call_in (inside_context marked s.context))) (body (inside_context marked s.context)) (step_of step (call_in (inside_context marked s.context))) (env_of scopes (held s ps cells)) w)
-        (Ends p code (marked_scene s im) scopes (length (loop_draft (kind_if (marked && not im) s.privates (Cs scopes init test step) rb) (Cs scopes init test step) (stmt_size rb) (λ v to d'. stmt_draft rb v to d') s.version d).lines))
+      (loop s.context.turns (is_counted marked s.context) (value_or (pos 1) test (call_in (inside_context marked s.context))) (body (inside_context marked s.context)) (step_of step (call_in (inside_context marked s.context))) (env_of scopes (held s ps cells)) w)
+      (Ends p code (marked_scene s im) scopes (length (loop_draft (kind_if (marked && not im) s.privates (Cs scopes init test step) rb) (Cs scopes init test step) (stmt_size rb) (λ v to d'. stmt_draft rb v to d') s.version d).lines))
   loop_follows false im s next scopes tidy fits here around init test step rb body ok_test ok_step free_test free_step loose_step fair flat declares hp mk hr d has ps cells holds w m at =
       plain_loop s next scopes tidy fits here around init test step rb body ok_test ok_step free_test free_step loose_step false im fair refl (or_false s.context.is_active ∙ fair.active) (λ e. fair.marked (sym (or_false im) ∙ e)) hp d has ps cells holds w m at
   loop_follows true true s next scopes tidy fits here around init test step rb body ok_test ok_step free_test free_step loose_step fair flat declares hp mk hr d has ps cells holds w m at =

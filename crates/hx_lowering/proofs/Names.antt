@@ -7,9 +7,8 @@ use Rattle.std.proofs.lemmas.Bool.{ltb-true, ltb-false}
 use Rattle.hx_tree.specs.Tree.{Name, Program}
 use Rattle.hx_tree.specs.World.{Map, look_up, Environment, local_value, first_of, words_of, word_at}
 use Rattle.hx_tree.specs.declared.tree.Returns.{Returns}
-use Rattle.hx_tree.specs.Accepted.{Kind, IntKind, ArrayKind, FunctionKind, Surroundings, is_among, is_local, kind_of, kinds_of}
+use Rattle.hx_tree.specs.Accepted.{IntKind, ArrayKind, FunctionKind, Surroundings, is_among, is_local, kind_of, kinds_of}
 use Rattle.hx_check.specs.declared.resolved.Words.{Words}
-use Rattle.hx_check.specs.declared.symbol.Symbol.TheVariants as symbol
 use Rattle.hx_check.specs.Symbols.{Scopes, private_word, symbols_of}
 use Rattle.hx_check.specs.Resolve.{word_named, words_named, int_word, array_words, or_else, no_words}
 use Rattle.hx_code.specs.Call.{at_index}
@@ -122,6 +121,7 @@ word_in words a n i room = go (nat_lt i n) refl
   where
     len : length (take n (drop a words)) ≡ n
     len = omega (arith, length-take n (drop a words), length-drop a words)
+
     go : (b : Bool) → nat_lt i n ≡ b → slice_get (take n (drop a words)) i ≡ (if b then Some (slice_index_or words (a + i) (pos 0)) else None)
     go true e =
         let lt = ltb-true i n e in
@@ -138,6 +138,7 @@ word_of lay st x w i h room =
   where
     l : (0 ≤ w.base) × (w.base + w.length ≤ 0 + words_in lay)
     l = lies_in lay 0 x w h
+
     go : (i : ℤ) → word_at (take w.length (drop w.base st)) i ≡ option_map (λ k. slice_index_or st (w.base + k) (pos 0)) (at_index i w.length)
     go (negsuc i) = refl
     go (pos i) = word_in st w.base w.length i (omega (arith, l.1)) ∙ same (nat_lt i w.length)

@@ -1,14 +1,14 @@
 -- A program's globals as a run begins, by their names and in the store.
-use Rattle.std.proofs.Common.{◌≡◌, ℕ, zero, suc, ◌+◌, ◌-◌, ◌≤◌, ◌<◌, Bool, true, false, List, [], ◌∷◌, ◌++◌, length, map, take, drop, replicate, Option, Some, None, ℤ, pos, refl, sym, ap, subst, ◌∙◌, arith, if◌then◌else◌, length-append, append_assoc, add_assoc}
-use Rattle.std.specs.Prelude.{bytes_eq, codes, flat_map, sum_by, IsFalse, slice_set, option_map}
-use Rattle.std.proofs.lemmas.List.{map-append, length-map, length-replicate, length-drop, length-take, drop-append-le, take_at, drop_at}
+use Rattle.std.proofs.Common.{◌≡◌, ℕ, ◌+◌, ◌≤◌, Bool, true, false, List, [], ◌∷◌, ◌++◌, length, map, take, drop, Option, Some, None, ℤ, pos, refl, sym, ap, subst, ◌∙◌, arith, if◌then◌else◌, length-append, append_assoc, add_assoc}
+use Rattle.std.specs.Prelude.{bytes_eq, flat_map, sum_by, slice_set, option_map}
+use Rattle.std.proofs.lemmas.List.{drop-append-le, take_at, drop_at}
 use Rattle.std.proofs.lemmas.List.Sums.{sum_by-cons}
 use Rattle.std.proofs.lemmas.Slice.Eq.{bytes_eq-Decides}
 use Rattle.std.proofs.Math.Seq.{take-append_seam, drop-append-add, set-append_seam}
 use Rattle.hx_tree.specs.declared.tree.Returns.{Returns}
 use Rattle.hx_tree.specs.Tree.{Program, Item, Globals, Function, GlobalDecl, Shape, Scalar, Array}
 use Rattle.hx_tree.specs.World.{Map, look_up}
-use Rattle.hx_tree.specs.Meaning.{item_globals, opening_words, filled, counted, words_at_start, array_words}
+use Rattle.hx_tree.specs.Meaning.{item_globals, opening_words, filled, counted, array_words}
 use Rattle.hx_tree.specs.Accepted.{Kind, item_kinds, kind_of_shape, shape_words, is_among, IsDistinct}
 use Rattle.hx_check.specs.declared.resolved.Words.{Words}
 use Rattle.hx_check.specs.declared.symbol.Symbol.{Symbol}
@@ -16,7 +16,7 @@ use Rattle.hx_check.specs.declared.symbol.Symbol.TheVariants as symbol
 use Rattle.hx_check.specs.Symbols.{symbol_at, global_symbols, items_symbols}
 use Rattle.hx_code.specs.Machine as code
 use Rattle.hx_lowering.specs.Lines.{array_of}
-use Rattle.hx_lowering.proofs.Globals.{Layout, store_from, words_in}
+use Rattle.hx_lowering.proofs.Globals.{store_from}
 
 abbrev pub gname : GlobalDecl → List ℕ
 gname g = g.name.text
@@ -105,6 +105,7 @@ module _ (B : Type 0) (told : Shape → ℕ → Option B) (seen : Option Symbol 
     where
       e0 : a + 0 ≡ a
       e0 = omega arith
+
       go : seen (look_up (items_symbols is (a + 0) (f + 1)) x) ≡ first_by x (flat_map item_globals is) (a + 0) → (b : Bool) → bytes_eq g.name.text x ≡ b
           → seen (if b then Some (symbol.Function f g.returns (length (Rattle.hx_tree.specs.Tree.param_names g.params))) else look_up (items_symbols is (a + 0) (f + 1)) x) ≡ first_by x (flat_map item_globals is) a
       go more true e =
@@ -179,15 +180,18 @@ fills input x (g ∷ gs) before d f room =
   where
     F : List ℤ
     F = flat_map opening gs
+
     R : List ℤ
     R = flat_map (replaced x (λ g. filled input g.shape) opening) gs
+
     len : length (before ++ opening g) ≡ length before + shape_words g.shape
     len = length-append before (opening g) ∙ ap (λ n. length before + n) f.0
+
     go : (length input ≤ sum_by (λ g. if bytes_eq g.name.text x then array_words g.shape else 0) gs
-          → (before ++ opening g) ++ flat_map (replaced x (λ g. filled input g.shape) opening) gs ≡ code.filled (option_map array_of (first_array x gs (length (before ++ opening g)))) input ((before ++ opening g) ++ flat_map opening gs))
+        → (before ++ opening g) ++ flat_map (replaced x (λ g. filled input g.shape) opening) gs ≡ code.filled (option_map array_of (first_array x gs (length (before ++ opening g)))) input ((before ++ opening g) ++ flat_map opening gs))
         → (b : Bool) → bytes_eq g.name.text x ≡ b → length input ≤ (if b then array_words g.shape else 0) + sum_by (λ g. if bytes_eq g.name.text x then array_words g.shape else 0) gs
         → before ++ ((if b then filled input g.shape else opening g) ++ flat_map (replaced x (λ g. filled input g.shape) opening) gs)
-          ≡ code.filled (option_map array_of (if b then told_array g.shape (length before) else first_array x gs (length before + shape_words g.shape))) input (before ++ (opening g ++ flat_map opening gs))
+        ≡ code.filled (option_map array_of (if b then told_array g.shape (length before) else first_array x gs (length before + shape_words g.shape))) input (before ++ (opening g ++ flat_map opening gs))
     go more false e room =
         sym (append_assoc before (opening g) R) ∙ more (omega arith)
         ∙ ap (λ n. code.filled (option_map array_of (first_array x gs n)) input ((before ++ opening g) ++ F)) len
@@ -196,8 +200,10 @@ fills input x (g ∷ gs) before d f room =
       where
         others : is_among x (map gname gs) ≡ false
         others = subst (λ y. is_among y (map gname gs) ≡ false) (same_text g.name.text x e) d.0
+
         unchanged : R ≡ F
         unchanged = none_replaced x (λ g. filled input g.shape) opening gs others
+
         at_it : (sh : Shape) → g.shape ≡ sh → before ++ (filled input sh ++ R) ≡ code.filled (option_map array_of (told_array sh (length before))) input (before ++ (opening_words sh ++ F))
         at_it (Scalar c) is = ap (λ l. before ++ (opening_words (Scalar c) ++ l)) unchanged
         at_it (Array n cs) is =
@@ -231,14 +237,17 @@ counts input x b (g ∷ gs) before d f same =
   where
     F : List ℤ
     F = flat_map b gs
+
     R : List ℤ
     R = flat_map (replaced x (λ g. counted input g.shape) b) gs
+
     len : length (before ++ b g) ≡ length before + shape_words g.shape
     len = length-append before (b g) ∙ ap (λ n. length before + n) f.0
+
     go : (before ++ b g) ++ flat_map (replaced x (λ g. counted input g.shape) b) gs ≡ code.counted (first_int x gs (length (before ++ b g))) input ((before ++ b g) ++ flat_map b gs)
         → (t : Bool) → bytes_eq g.name.text x ≡ t
         → before ++ ((if t then counted input g.shape else b g) ++ flat_map (replaced x (λ g. counted input g.shape) b) gs)
-          ≡ code.counted (if t then told_int g.shape (length before) else first_int x gs (length before + shape_words g.shape)) input (before ++ (b g ++ flat_map b gs))
+        ≡ code.counted (if t then told_int g.shape (length before) else first_int x gs (length before + shape_words g.shape)) input (before ++ (b g ++ flat_map b gs))
     go more false e =
         sym (append_assoc before (b g) R) ∙ more
         ∙ ap (λ n. code.counted (first_int x gs n) input ((before ++ b g) ++ F)) len
@@ -247,8 +256,10 @@ counts input x b (g ∷ gs) before d f same =
       where
         others : is_among x (map gname gs) ≡ false
         others = subst (λ y. is_among y (map gname gs) ≡ false) (same_text g.name.text x e) d.0
+
         unchanged : R ≡ F
         unchanged = none_replaced x (λ g. counted input g.shape) b gs others
+
         at_it : (sh : Shape) → g.shape ≡ sh → before ++ (counted input sh ++ R) ≡ code.counted (told_int sh (length before)) input (before ++ (b g ++ F))
         at_it (Array n cs) is =
             ap (λ l. before ++ (opening_words (Array n cs) ++ l)) unchanged ∙ ap (λ l. before ++ (l ++ F)) (sym (same g e ∙ ap opening_words is))

@@ -1,5 +1,5 @@
 -- Where the words of each function stand.
-use Rattle.std.proofs.Common.{◌≡◌, ℕ, zero, suc, ◌+◌, ◌≤◌, List, [], ◌∷◌, ◌++◌, length, Option, Some, None, pos, refl, sym, ap, subst, ◌∙◌, arith, length-append, append_assoc}
+use Rattle.std.proofs.Common.{◌≡◌, ℕ, zero, suc, ◌+◌, List, [], ◌∷◌, ◌++◌, length, Some, pos, refl, ap, subst, ◌∙◌, arith, length-append, append_assoc}
 use Rattle.std.specs.Prelude.{slice_get}
 use Rattle.hx_check.specs.Resolved as resolved
 use Rattle.hx_check.specs.Resolved.{Clauses, LoopKind}
@@ -91,7 +91,7 @@ module _ (code : CodeView) where
         before = d;
         stands = has_functions fs globals (function_draft g globals d) has;
         in_table = ap (λ l. slice_get l number) (table ∙ more.1 ∙ ap (λ l. l ++ more.0) (function_behind g globals d))
-          ∙ ap (λ n. slice_get ((d.functions ++ function_at g (length d.lines) ∷ []) ++ more.0) n) here ∙ seam d.functions (function_at g (length d.lines)) more.0;
+            ∙ ap (λ n. slice_get ((d.functions ++ function_at g (length d.lines) ∷ []) ++ more.0) n) here ∙ seam d.functions (function_at g (length d.lines)) more.0;
       })
   functions_placed (g ∷ fs) globals d has table (suc i) f at number is =
       let one_more : length (function_draft g globals d).functions ≡ length d.functions + 1 = ap length (function_behind g globals d) ∙ length-append d.functions (function_at g (length d.lines) ∷ []) in

@@ -1,50 +1,35 @@
 -- The code of a program does what the program means.
-use Rattle.std.proofs.Common.{◌≡◌, ℕ, zero, suc, ◌+◌, ◌-◌, ◌≤◌, ◌<◌, Bool, true, false, List, [], ◌∷◌, ◌++◌, length, map, drop, Option, Some, None, ℤ, pos, refl, sym, ap, subst, ◌∙◌, arith, if◌then◌else◌, ⊎_elim}
-use Rattle.std.specs.Prelude.{bytes_eq, codes, flat_map, zip, slice_get, slice_index_or, IsTrue, nat_eq, ◌&&◌, All, option_map}
+use Rattle.std.proofs.Common.{◌≡◌, ℕ, zero, suc, ◌+◌, ◌-◌, ◌≤◌, List, [], length, drop, Some, None, ℤ, pos, refl, sym, ap, subst, ◌∙◌, arith, ⊎_elim}
+use Rattle.std.specs.Prelude.{codes, slice_index_or}
 use Rattle.std.proofs.lemmas.Bool.{cases_lt}
 use Rattle.std.proofs.lemmas.List.{length-replicate}
 use Rattle.hx_tree.specs.declared.limits.TheConstants.{PRIVATE_LIMIT, CALL_LIMIT}
-use Rattle.std.proofs.lemmas.Bool.Decides.{Decides-eqb}
-use Rattle.std.proofs.lemmas.Option.{slice_get-map, get_or_from_slice_get}
+use Rattle.std.proofs.lemmas.Option.{get_or_from_slice_get}
 use Rattle.hx_tree.specs.declared.tree.Returns.TheVariants as returns
 use Rattle.hx_tree.specs.declared.outcome.End.{End}
 use Rattle.hx_tree.specs.declared.outcome.End.TheVariants as end
-use Rattle.hx_tree.specs.Tree as tree
-use Rattle.hx_tree.specs.Tree.{Program, Item, Func, param_names}
-use Rattle.hx_tree.specs.World.{Map, Environment, World, Answer, Gives, Faults, Unfinished, ◌>>=◌, gives}
-use Rattle.hx_tree.specs.Effect.{Exit, GoesOn, Breaks, Continues, Returns, Context, effects}
-use Rattle.hx_tree.specs.Meaning.{item_functions, functions_of, function_named, texts_of, returned, run_function, main_of, main_context, opening_world, Ending, ending, ending_of_main, meaning, Means, InputFits}
-use Rattle.hx_tree.specs.Accepted.{Surroundings, AcceptsItem, AcceptsFunction, IsAccepted, kinds_of, at_start, private_words, parts_locals}
-use Rattle.hx_check.specs.Resolved as resolved
-use Rattle.hx_check.specs.Symbols.{Scopes, symbols_of, numbered}
-use Rattle.hx_check.specs.Resolve.{resolve, resolve_function, resolve_parts, function_number, or_else}
-use Rattle.hx_code.specs.declared.word.Word.TheVariants.{Const, Ret}
-use Rattle.hx_code.specs.declared.word.Ask.TheVariants as ask
+use Rattle.hx_tree.specs.Tree.{Program}
+use Rattle.hx_tree.specs.World.{World, Answer, Gives, Faults, Unfinished}
+use Rattle.hx_tree.specs.Meaning.{functions_of, run_function, main_of, main_context, opening_world, Ending, ending, ending_of_main, InputFits}
+use Rattle.hx_tree.specs.Accepted.{IsAccepted}
+use Rattle.hx_check.specs.Symbols.{symbols_of}
+use Rattle.hx_check.specs.Resolve.{resolve, function_number, or_else}
 use Rattle.hx_code.specs.Code.{CodeView, FuncView}
 use Rattle.hx_code.specs.Code as code
-use Rattle.hx_code.specs.Call.{CallView, Asks, wants_of}
-use Rattle.hx_code.specs.Local.{blank, begun}
+use Rattle.hx_code.specs.Local.{blank}
 use Rattle.hx_code.specs.Region.{held as held_count}
 use Rattle.hx_code.specs.Machine.{Machine, by_end, machine_step, machine_after, opening_machine, opening_store}
-use Rattle.hx_lowering.specs.declared.line.Line.{Line}
 use Rattle.hx_lowering.specs.Correct.{Shows, run, Behaves}
-use Rattle.hx_lowering.specs.Lines.{Version}
-use Rattle.hx_lowering.specs.Draft.{Draft, put_word, no_targets, no_draft, plain_version, function_at, function_draft, functions_draft, draft_of, code_of}
+use Rattle.hx_lowering.specs.Draft.{function_at, code_of}
 use Rattle.hx_lowering.proofs.Globals.{words_in}
-use Rattle.hx_lowering.proofs.Follow.{Follows, Reaches, follows_so, after-sum}
+use Rattle.hx_lowering.proofs.Follow.{Follows, follows_so, after-sum}
 use Rattle.hx_lowering.proofs.Calls.{C, F, it_stands, scene, runs_function, calls_follow}
-use Rattle.hx_lowering.proofs.Setting.{Memory, Ground, Outside, Ended, returns_back}
-use Rattle.hx_lowering.proofs.Stand.{words_of, spots_of, has_before, word_stands, length-put}
-use Rattle.hx_lowering.proofs.At.{layout_of, call_at, world_at, At, at_place, shows}
-use Rattle.hx_lowering.proofs.Names.{env_of, names_of, names_in, Around}
-use Rattle.hx_lowering.proofs.Values.{word_goes}
-use Rattle.hx_lowering.proofs.Scene.{Scene, Fair, Stands, Came, Holds, EndsBy, held}
-use Rattle.hx_lowering.proofs.Locals.{Tidy}
-use Rattle.hx_lowering.proofs.Drafts.{HasDraft, has_word}
-use Rattle.hx_lowering.proofs.Statements.{PartsEnd, parts_follow}
+use Rattle.hx_lowering.proofs.Setting.{Memory, Outside, Ended}
+use Rattle.hx_lowering.proofs.At.{layout_of, world_at, At, at_place, shows}
+use Rattle.hx_lowering.proofs.Scene.{Came}
 use Rattle.hx_lowering.proofs.Functions.{IsFunction, function_is}
-use Rattle.hx_lowering.proofs.Placed.{IsPlaced, placed, body_of, has_end, has_body}
-use Rattle.hx_lowering.proofs.Begins.{globals_are, begins, has_room}
+use Rattle.hx_lowering.proofs.Placed.{IsPlaced}
+use Rattle.hx_lowering.proofs.Begins.{room_is, globals_are, begins, has_room}
 
 -- ---- a machine that has ended
 
@@ -131,8 +116,9 @@ module _ (p : Program) (accepted : IsAccepted p) where
 
   pub behaves : Behaves p code_here
   behaves = record {
+    fits = λ input. (λ fit. subst (λ n. length input ≤ n) (room_is p accepted) fit, λ fit. subst (λ n. length input ≤ n) (sym (room_is p accepted)) fit);
     ends = λ input room r means. shown_so input means.0 _ r (runs input room means.0) means.1;
     ends_only = λ input room n e over.
-      let found = meant_so input n e over (run_function (main_of p) [] (main_context p n) (opening_world p input)) (runs input room n) in
-      (found.0, (n, found.1), found.2);
+        let found = meant_so input n e over (run_function (main_of p) [] (main_context p n) (opening_world p input)) (runs input room n) in
+        (found.0, (n, found.1), found.2);
   }

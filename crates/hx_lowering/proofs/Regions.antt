@@ -1,48 +1,45 @@
 -- The words of a marked loop: a region where none is active, and else the plain loop.
-use Rattle.std.proofs.Common.{◌≡◌, ℕ, zero, suc, ◌+◌, ◌≤◌, ◌<◌, ◌%◌, ◌^◌, Bool, true, false, List, [], ◌∷◌, ◌++◌, length, drop, Option, Some, None, ℤ, pos, refl, sym, ap, subst, ◌∙◌, arith, if◌then◌else◌, length-set, append_assoc, add_assoc}
-use Rattle.std.specs.Prelude.{option_map, IsTrue, ◌||◌, ◌&&◌, slice_set, slice_index_or, slice_get}
+use Rattle.std.proofs.Common.{◌≡◌, ℕ, ◌+◌, ◌≤◌, ◌<◌, ◌%◌, ◌^◌, Bool, true, false, List, [], ◌∷◌, ◌++◌, length, drop, Option, Some, None, ℤ, pos, refl, sym, ap, subst, ◌∙◌, arith, length-set, append_assoc, add_assoc}
+use Rattle.std.specs.Prelude.{◌||◌, slice_set, slice_index_or}
 use Rattle.std.proofs.Math.Seq.{get_or-append_seam}
 use Rattle.std.proofs.lemmas.List.{length-replicate, get_or-drop}
 use Rattle.hx_tree.specs.declared.limits.TheConstants.{CELL_LIMIT, PRIVATE_LIMIT}
-use Rattle.hx_tree.specs.Numbers.{is_zero}
 use Rattle.hx_tree.specs.Tree as tree
 use Rattle.hx_tree.specs.Tree.{Program, Name}
-use Rattle.hx_tree.specs.World.{World, Answer, Gives, Faults, Unfinished, Run, and_then, ◌>>=◌, gives, Environment}
-use Rattle.hx_tree.specs.Value.{Calling, value}
-use Rattle.hx_tree.specs.Effect.{Exit, GoesOn, Breaks, Continues, Returns, Effect, Context, call_in, value_or, step_of, loop}
+use Rattle.hx_tree.specs.World.{World, Gives, Run, Environment}
+use Rattle.hx_tree.specs.Effect.{Exit, GoesOn, Effect, Context, call_in, value_or, step_of, loop}
 use Rattle.hx_tree.specs.Accepted.{Surroundings, AcceptsExpr, AcceptsAssignment, IfThere}
 use Rattle.hx_check.specs.Resolved as resolved
 use Rattle.hx_check.specs.Resolved.{Clauses, Simple}
-use Rattle.hx_check.specs.Symbols.{Scopes, symbols_of}
+use Rattle.hx_check.specs.Symbols.{Scopes}
 use Rattle.hx_check.specs.Carried.{expr_reads, assignment_reads, assigns, stmt_reads, stmt_assigns, if_any, turns_read, turns_assign, turns_declare, region_of as region_taken}
-use Rattle.hx_code.specs.declared.word.Word.TheVariants.{Jump, Enter, Turn, Leave}
+use Rattle.hx_code.specs.declared.word.Word.TheVariants.{Enter, Turn, Leave}
 use Rattle.hx_code.specs.declared.word.Ask.TheVariants as ask
 use Rattle.hx_code.specs.declared.table.Carried.{Carried}
 use Rattle.hx_code.specs.Code.{CodeView, RegionView, region_of}
-use Rattle.hx_code.specs.Call.{CallView, Asks, wants, wants_of, wants_at}
+use Rattle.hx_code.specs.Call.{CallView, Asks, wants_of, wants_at}
 use Rattle.hx_code.specs.Local.{begun, blank}
 use Rattle.hx_code.specs.Region.{into_cells, from_cells, copied_words}
 use Rattle.hx_code.specs.Machine.{Machine, machine_step}
-use Rattle.hx_lowering.specs.declared.line.Line.{Line}
-use Rattle.hx_lowering.specs.Lines.{Version, put, cell_of, test_lines, step_lines}
-use Rattle.hx_lowering.specs.Size.{test_size, step_size, turn_size, stmt_size}
-use Rattle.hx_lowering.specs.Draft.{Draft, Targets, with_lines, put_word, inside, cells_from, targets, turn_draft, plain_draft, turns_draft, region_at, region_draft, stmt_draft}
+use Rattle.hx_lowering.specs.Lines.{Version, cell_of}
+use Rattle.hx_lowering.specs.Size.{turn_size, stmt_size}
+use Rattle.hx_lowering.specs.Draft.{Draft, Targets, put_word, inside, cells_from, targets, plain_draft, region_at, region_draft, stmt_draft}
 use Rattle.hx_lowering.proofs.Globals.{Layout, store_from, words_in, elsewhere_behind}
 use Rattle.hx_lowering.proofs.Follow.{Follows, steps_to, turns_to, at_once}
-use Rattle.hx_lowering.proofs.Setting.{Memory, Ground, Outside, Inside, Opener, is_active, at_outside, at_inside, opens_at, turns_at, leaves_at, enters_plain, memory_behind, Back, setting_of}
-use Rattle.hx_lowering.proofs.Stand.{Has, has_before, word_stands, length-put}
+use Rattle.hx_lowering.proofs.Setting.{Memory, Ground, Outside, Inside, Opener, is_active, at_outside, at_inside, opens_at, turns_at, leaves_at, memory_behind}
+use Rattle.hx_lowering.proofs.Stand.{word_stands, length-put}
 use Rattle.hx_lowering.proofs.At.{layout_of, call_at, world_at, At, at_place}
 use Rattle.hx_lowering.proofs.Names.{env_of, Around}
 use Rattle.hx_lowering.proofs.Deeper.{depth_of}
 use Rattle.hx_lowering.proofs.Calling.{CallsFollow}
-use Rattle.hx_lowering.proofs.Scene.{Scene, Fair, Stands, Holds, Came, EndsBy, Ends, held, fixed_or, turns_follow}
+use Rattle.hx_lowering.proofs.Scene.{Scene, Fair, Stands, Holds, Came, Ends, held, fixed_or, turns_follow}
 use Rattle.hx_lowering.proofs.Assigns.{Free, Loose}
 use Rattle.hx_lowering.proofs.Values.{value_at, private_value, or_left, or_right}
 use Rattle.hx_lowering.proofs.Locals.{Tidy, env_below}
 use Rattle.hx_lowering.proofs.Cells.{cells_apart, into_at, from_at, from_other, length-from_cells, length-copied}
 use Rattle.hx_lowering.proofs.Taken.{fixed_in, kept_in, unfixed_read, unfixed_write, unkept_write, is_fixed, is_kept, kept_so, in_cell, in_none, few_cells, small_cell, rises, begins_with}
-use Rattle.hx_lowering.proofs.Drafts.{HasDraft, has_word, has_lines, has_step, has_test, has_stmt, has_turns, has_plain, has_region, length-test, length-step, length-stmt, length-turns, length-plain}
-use Rattle.hx_lowering.proofs.Loops.{test_here, step_here, tested, stepped, within, clauses_of, plain_follows}
+use Rattle.hx_lowering.proofs.Drafts.{HasDraft, has_word, has_lines, has_step, has_test, has_stmt, has_plain, has_region, length-test, length-step, length-stmt, length-plain}
+use Rattle.hx_lowering.proofs.Loops.{test_here, step_here, tested, stepped, clauses_of}
 
 -- cells stand behind the globals
 pub cells_behind : (lay : Layout) (globals : ℕ) → globals ≡ words_in lay → (cs : List Carried) (ps st : List ℤ) → store_from lay 0 (into_cells globals cs ps st) ≡ store_from lay 0 st
@@ -150,6 +147,7 @@ module _ (p : Program) (code : CodeView) (words : code.globals ≡ words_in (lay
         where
           inner : List ℤ
           inner = drop G (into_cells G (cells_from ks 0) o.call.privates st)
+
           go : (a b : Bool) → ws k ≡ a → rs k ≡ b → held si start_words (drop G (into_cells G (cells_from ks 0) o.call.privates st)) k ≡ base k
           go true b w r =
               let cell = in_cell s.privates low cs rb so_fair.few fits declares k lt w in
@@ -180,6 +178,7 @@ module _ (p : Program) (code : CodeView) (words : code.globals ≡ words_in (lay
         where
           room : k < length o.call.privates
           room = let few = so_fair.few in omega (arith, long, few)
+
           go : (a b : Bool) → ws k ≡ a → rs k ≡ b → held si ps cells k ≡ slice_index_or (from_cells G (cells_from ks 0) st o.call.privates) k (pos 0)
           go true b w r =
               let cell = in_cell s.privates low cs rb so_fair.few fits declares k lt w in
@@ -198,11 +197,11 @@ module _ (p : Program) (code : CodeView) (words : code.globals ≡ words_in (lay
       → (d : Draft) → HasDraft code (whole (region_taken s.privates (clauses_of p code words scopes init test step) rb) (clauses_of p code words scopes init test step) rb s.version d)
       → Fair p code (outside_scene s rest) → c.is_active ≡ true → ((K : Ground) → depth_of K ≡ depth_of (Outside rest) → CallsFollow p code K (c.calls (is_active K)) c.turns)
       → ((o : Opener) → o.region ≡ length d.regions → Fair p code (iteration_scene s mk low o (clauses_of p code words scopes init test step) rb (targets (clauses_of p code words scopes init test step) (stmt_size rb) (length (entered (clauses_of p code words scopes init test step) (stmt_size rb) s.version d).lines)) c) → (ps cells : List ℤ) → Holds (iteration_scene s mk low o (clauses_of p code words scopes init test step) rb (targets (clauses_of p code words scopes init test step) (stmt_size rb) (length (entered (clauses_of p code words scopes init test step) (stmt_size rb) s.version d).lines)) c) ps cells → (w : World) (m : Machine) → At p code (Inside o []) (length (tested p code words (clauses_of p code words scopes init test step) ((length (entered (clauses_of p code words scopes init test step) (stmt_size rb) s.version d).lines) + turn_size (clauses_of p code words scopes init test step) (stmt_size rb) + 1) (inside o.region (region_taken s.privates (clauses_of p code words scopes init test step) rb) s.version) (entered (clauses_of p code words scopes init test step) (stmt_size rb) s.version d)).lines) ps [] cells w m
-        → HasDraft code (stmt_draft rb (inside o.region (region_taken s.privates (clauses_of p code words scopes init test step) rb) s.version) (targets (clauses_of p code words scopes init test step) (stmt_size rb) (length (entered (clauses_of p code words scopes init test step) (stmt_size rb) s.version d).lines)) (tested p code words (clauses_of p code words scopes init test step) ((length (entered (clauses_of p code words scopes init test step) (stmt_size rb) s.version d).lines) + turn_size (clauses_of p code words scopes init test step) (stmt_size rb) + 1) (inside o.region (region_taken s.privates (clauses_of p code words scopes init test step) rb) s.version) (entered (clauses_of p code words scopes init test step) (stmt_size rb) s.version d)))
-        → Follows code c.turns m (body (env_of scopes (held (iteration_scene s mk low o (clauses_of p code words scopes init test step) rb (targets (clauses_of p code words scopes init test step) (stmt_size rb) (length (entered (clauses_of p code words scopes init test step) (stmt_size rb) s.version d).lines)) c) ps cells)) w) (Ends p code (iteration_scene s mk low o (clauses_of p code words scopes init test step) rb (targets (clauses_of p code words scopes init test step) (stmt_size rb) (length (entered (clauses_of p code words scopes init test step) (stmt_size rb) s.version d).lines)) c) scopes (length (stmt_draft rb (inside o.region (region_taken s.privates (clauses_of p code words scopes init test step) rb) s.version) (targets (clauses_of p code words scopes init test step) (stmt_size rb) (length (entered (clauses_of p code words scopes init test step) (stmt_size rb) s.version d).lines)) (tested p code words (clauses_of p code words scopes init test step) ((length (entered (clauses_of p code words scopes init test step) (stmt_size rb) s.version d).lines) + turn_size (clauses_of p code words scopes init test step) (stmt_size rb) + 1) (inside o.region (region_taken s.privates (clauses_of p code words scopes init test step) rb) s.version) (entered (clauses_of p code words scopes init test step) (stmt_size rb) s.version d))).lines)))
+      → HasDraft code (stmt_draft rb (inside o.region (region_taken s.privates (clauses_of p code words scopes init test step) rb) s.version) (targets (clauses_of p code words scopes init test step) (stmt_size rb) (length (entered (clauses_of p code words scopes init test step) (stmt_size rb) s.version d).lines)) (tested p code words (clauses_of p code words scopes init test step) ((length (entered (clauses_of p code words scopes init test step) (stmt_size rb) s.version d).lines) + turn_size (clauses_of p code words scopes init test step) (stmt_size rb) + 1) (inside o.region (region_taken s.privates (clauses_of p code words scopes init test step) rb) s.version) (entered (clauses_of p code words scopes init test step) (stmt_size rb) s.version d)))
+      → Follows code c.turns m (body (env_of scopes (held (iteration_scene s mk low o (clauses_of p code words scopes init test step) rb (targets (clauses_of p code words scopes init test step) (stmt_size rb) (length (entered (clauses_of p code words scopes init test step) (stmt_size rb) s.version d).lines)) c) ps cells)) w) (Ends p code (iteration_scene s mk low o (clauses_of p code words scopes init test step) rb (targets (clauses_of p code words scopes init test step) (stmt_size rb) (length (entered (clauses_of p code words scopes init test step) (stmt_size rb) s.version d).lines)) c) scopes (length (stmt_draft rb (inside o.region (region_taken s.privates (clauses_of p code words scopes init test step) rb) s.version) (targets (clauses_of p code words scopes init test step) (stmt_size rb) (length (entered (clauses_of p code words scopes init test step) (stmt_size rb) s.version d).lines)) (tested p code words (clauses_of p code words scopes init test step) ((length (entered (clauses_of p code words scopes init test step) (stmt_size rb) s.version d).lines) + turn_size (clauses_of p code words scopes init test step) (stmt_size rb) + 1) (inside o.region (region_taken s.privates (clauses_of p code words scopes init test step) rb) s.version) (entered (clauses_of p code words scopes init test step) (stmt_size rb) s.version d))).lines)))
       → (ps cells : List ℤ) → Holds (outside_scene s rest) ps cells → (w : World) (m : Machine) → At p code (Outside rest) (length d.lines) ps [] cells w m
       → Follows code c.turns m (loop c.turns true (value_or (pos 1) test (call_in c)) body (step_of step (call_in c)) (env_of scopes (held (outside_scene s rest) ps cells)) w)
-        (Ends p code (outside_scene s rest) scopes (length (whole (region_taken s.privates (clauses_of p code words scopes init test step) rb) (clauses_of p code words scopes init test step) rb s.version d).lines))
+      (Ends p code (outside_scene s rest) scopes (length (whole (region_taken s.privates (clauses_of p code words scopes init test step) rb) (clauses_of p code words scopes init test step) rb s.version d).lines))
   region_opens s mk rest c low scopes tidy fits here around init test step rb body ok_test ok_step flat declares d has so_fair active calls hb ps cells holds w m at =
       let cs = clauses_of p code words scopes init test step in
       let r = region_taken s.privates cs rb in
@@ -253,8 +252,17 @@ module _ (p : Program) (code : CodeView) (words : code.globals ≡ words_in (lay
       let so = outside_scene s rest in
       let few = so_fair.few in
       let fair : Fair p code si = record {
-        globals = so_fair.globals; carries = λ k cell e. refl; active = active; marked = λ e. refl; loose = λ e k. absurd cc; thawed = λ e. absurd cc;
-        apart = λ j k cell e f. cells_apart r.carried j k 0 cell e f; small = λ k cell e. small_cell s.privates low cs rb few fits declares k cell e; still = λ vs e k. absurd cc; few = few; calls = λ K e. calls K (e ∙ omega arith);
+        globals = so_fair.globals;
+        carries = λ k cell e. refl;
+        active = active;
+        marked = λ e. refl;
+        loose = λ e k. absurd cc;
+        thawed = λ e. absurd cc;
+        apart = λ j k cell e f. cells_apart r.carried j k 0 cell e f;
+        small = λ k cell e. small_cell s.privates low cs rb few fits declares k cell e;
+        still = λ vs e k. absurd cc;
+        few = few;
+        calls = λ K e. calls K (e ∙ omega arith);
       } in
       let ps0 = copied_words r.copied ps blank in
       let G = words_in (layout_of p) in
@@ -293,44 +301,59 @@ module _ (p : Program) (code : CodeView) (words : code.globals ≡ words_in (lay
       (λ n le ps' cells' holds' w' m' at' f g kf kg. test_here p code words si fair low scopes tidy fits here around test ok_test free_test n exit le ps' cells' ent.lines has1.lines w' m' at' f g Done kf kg)
       (λ ps' cells' holds' w' m' at'. subst (λ q. Follows code c.turns m' (body (env_of scopes (held si ps' cells')) w') (Ends p code si scopes q)) at_step (hb o refl fair ps' cells' holds' w' m' at' has2))
       (λ env' w' m' stands. step_here p code words si fair low scopes tidy fits here around step ok_step free_step loose_step t2.lines has3.lines env' w' m'
-        (subst (λ q. Stands p code si scopes q env' w' m') (sym at_step) stands))
+      (subst (λ q. Stands p code si scopes q env' w' m') (sym at_step) stands))
       (λ n env' w' m' next stands k.
-        let at' = stands.at in
-        let mem' = at'.memory in
-        let j = (mem'.iteration + 1) % 2 ^ 64 in
-        let mem'' : Memory = record mem' { turns = mem'.turns + 1; iteration = j } in
-        let m'' = at_inside o [] (begun entry.start ps0) mem'' in
-        let w'' : World = record w' { turns = w'.turns + 1 } in
-        turns_to code n m' m'' (next env' w'') Done
-        (ap (machine_step code) at'.is
-        ∙ turns_at code o (call_at (length t3.lines) stands.ps []) (call_at (length t3.lines) stands.ps []) mem' (ap (λ word. wants_of word (call_at (length t3.lines) stands.ps [])) (word_stands code wv 0 Turn t3.lines has4.lines))
-        ∙ ap (λ (g : RegionView). at_inside o [] (begun g.start (copied_words g.copied ps blank)) mem'') region_is)
-        (k ps0 stands.cells (begun_holds s rest so_fair mk low o cs rb T c fits declares stands.cells) w'' m''
-        (at_place p code (Inside o []) entry.start start ps0 [] stands.cells w'' m'' start_is
-        (record { memory = mem''; is = refl;
-          world = ap (λ (u : World). record u { turns = u.turns + 1 }) at'.world ∙ ap (λ t. record { store = store_from (layout_of p) 0 mem'.store; text = o.text ++ mem'.text; turns = t }) (add_assoc o.turns mem'.turns 1);
-          room = at'.room; cells_are = at'.cells_are }))
-        (stands.env_is ∙ env_below low scopes (held si stands.ps stands.cells) (held si ps0 stands.cells) tidy.below (λ k' lt. turns_same s rest so_fair mk low o cs rb T c fits declares stands.ps stands.cells stands.holds k' lt))))
+      let at' = stands.at in
+      let mem' = at'.memory in
+      let j = (mem'.iteration + 1) % 2 ^ 64 in
+      let mem'' : Memory = record mem' { turns = mem'.turns + 1; iteration = j } in
+      let m'' = at_inside o [] (begun entry.start ps0) mem'' in
+      let w'' : World = record w' { turns = w'.turns + 1 } in
+      turns_to code n m' m'' (next env' w'') Done
+      (ap (machine_step code) at'.is
+      ∙ turns_at code o (call_at (length t3.lines) stands.ps []) (call_at (length t3.lines) stands.ps []) mem' (ap (λ word. wants_of word (call_at (length t3.lines) stands.ps [])) (word_stands code wv 0 Turn t3.lines has4.lines))
+      ∙ ap (λ (g : RegionView). at_inside o [] (begun g.start (copied_words g.copied ps blank)) mem'') region_is)
+      (k ps0 stands.cells (begun_holds s rest so_fair mk low o cs rb T c fits declares stands.cells) w'' m''
+      (at_place p code (Inside o []) entry.start start ps0 [] stands.cells w'' m'' start_is
+      (record {
+        memory = mem'';
+        is = refl;
+        world = ap (λ (u : World). record u { turns = u.turns + 1 }) at'.world ∙ ap (λ t. record { store = store_from (layout_of p) 0 mem'.store; text = o.text ++ mem'.text; turns = t }) (add_assoc o.turns mem'.turns 1);
+        room = at'.room;
+        cells_are = at'.cells_are;
+      }))
+      (stands.env_is ∙ env_below low scopes (held si stands.ps stands.cells) (held si ps0 stands.cells) tidy.below (λ k' lt. turns_same s rest so_fair mk low o cs rb T c fits declares stands.ps stands.cells stands.holds k' lt))))
       (λ n env' w' m' stands.
-        let at' = at_place p code (Inside o []) exit (length t4.lines) stands.ps [] stands.cells w' m' at_exit stands.at in
-        let mem' = at'.memory in
-        let ps'' = from_cells code.globals entry.carried mem'.store ps in
-        let cells'' = drop (words_in (layout_of p)) mem'.store in
-        let m'' = at_outside rest (call_at entry.exit ps'' []) (memory_behind o mem') in
-        steps_to code n m' m'' (Gives (GoesOn, env') w') Done
-        (ap (machine_step code) at'.is
-        ∙ leaves_at code o (call_at (length t4.lines) stands.ps []) (call_at (length t4.lines) stands.ps []) mem' (ap (λ word. wants_of word (call_at (length t4.lines) stands.ps [])) (word_stands code wv 0 Leave t4.lines has5.lines))
-        ∙ ap (λ (g : RegionView). at_outside rest (call_at g.exit (from_cells code.globals g.carried mem'.store ps) []) (memory_behind o mem')) region_is)
-        (at_once code m'' (λ x. Stands p code so scopes (length plain.lines) env' w' x)
-        (record { ps = ps''; cells = cells'';
-          holds = record { long = length-from_cells code.globals entry.carried mem'.store ps ∙ holds.long;
-            keeps = λ k z e. (let t : None ≡ Some z = sym (so_fair.loose refl k).1 ∙ e in absurd cc); freezes = λ vs e. (let t : None ≡ Some vs = sym (so_fair.thawed refl) ∙ e in absurd cc) };
-          at = at_place p code (Outside rest) entry.exit (length plain.lines) ps'' [] cells'' w' m'' at_end
-          (record { memory = memory_behind o mem'; is = refl; world = at'.world ∙ world_behind o rest mem'; room = at'.room; cells_are = λ a. refl });
-          env_is = stands.env_is ∙ env_below low scopes (held si stands.ps stands.cells) (held so ps'' cells'') tidy.below
+      let at' = at_place p code (Inside o []) exit (length t4.lines) stands.ps [] stands.cells w' m' at_exit stands.at in
+      let mem' = at'.memory in
+      let ps'' = from_cells code.globals entry.carried mem'.store ps in
+      let cells'' = drop (words_in (layout_of p)) mem'.store in
+      let m'' = at_outside rest (call_at entry.exit ps'' []) (memory_behind o mem') in
+      steps_to code n m' m'' (Gives (GoesOn, env') w') Done
+      (ap (machine_step code) at'.is
+      ∙ leaves_at code o (call_at (length t4.lines) stands.ps []) (call_at (length t4.lines) stands.ps []) mem' (ap (λ word. wants_of word (call_at (length t4.lines) stands.ps [])) (word_stands code wv 0 Leave t4.lines has5.lines))
+      ∙ ap (λ (g : RegionView). at_outside rest (call_at g.exit (from_cells code.globals g.carried mem'.store ps) []) (memory_behind o mem')) region_is)
+      (at_once code m'' (λ x. Stands p code so scopes (length plain.lines) env' w' x)
+      (record {
+        ps = ps'';
+        cells = cells'';
+        holds = record {
+          long = length-from_cells code.globals entry.carried mem'.store ps ∙ holds.long;
+          keeps = λ k z e. (let t : None ≡ Some z = sym (so_fair.loose refl k).1 ∙ e in absurd cc);
+          freezes = λ vs e. (let t : None ≡ Some vs = sym (so_fair.thawed refl) ∙ e in absurd cc);
+        };
+        at = at_place p code (Outside rest) entry.exit (length plain.lines) ps'' [] cells'' w' m'' at_end
+            (record { memory = memory_behind o mem'; is = refl; world = at'.world ∙ world_behind o rest mem'; room = at'.room; cells_are = λ a. refl });
+        env_is = stands.env_is ∙ env_below low scopes (held si stands.ps stands.cells) (held so ps'' cells'') tidy.below
             (λ k lt. leaves_same s rest so_fair mk low o cs rb T c fits declares G mem'.store stands.ps stands.cells cells'' stands.holds (sym (at'.cells_are refl)) holds.long k lt
-            ∙ ap (λ g. held so (from_cells g entry.carried mem'.store ps) cells'' k) (sym words)) })))
+            ∙ ap (λ g. held so (from_cells g entry.carried mem'.store ps) cells'' k) (sym words));
+      })))
       (λ n z env' w' m' came. at_once code m' (λ x. Came p code so z w' x)
-        (record { memory = memory_behind o came.memory; back = came.back; world = came.world ∙ world_behind o rest came.memory; room = came.room;
-          cells_are = λ vs e a. absurd cc }))
+      (record {
+        memory = memory_behind o came.memory;
+        back = came.back;
+        world = came.world ∙ world_behind o rest came.memory;
+        room = came.room;
+        cells_are = λ vs e a. absurd cc;
+      }))
       c.turns (omega arith) ps0 cells0 (begun_holds s rest so_fair mk low o cs rb T c fits declares cells0) w m0 at0))

@@ -1,19 +1,18 @@
 -- What a statement's words do, in terms of where they may end.
-use Rattle.std.proofs.Common.{◌≡◌, ℕ, zero, suc, ◌+◌, ◌≤◌, ◌<◌, Bool, true, false, List, [], ◌∷◌, length, take, drop, Option, Some, None, ℤ, pos, refl, sym, ap, subst, ◌∙◌, arith, if◌then◌else◌}
-use Rattle.std.specs.Prelude.{slice_get, slice_index_or, IsTrue}
+use Rattle.std.proofs.Common.{◌≡◌, ℕ, zero, suc, ◌+◌, ◌≤◌, ◌<◌, Bool, true, false, List, [], length, drop, Option, Some, None, ℤ, pos, refl, sym, subst, arith, if◌then◌else◌}
+use Rattle.std.specs.Prelude.{slice_index_or}
 use Rattle.hx_tree.specs.declared.limits.TheConstants.{CELL_LIMIT, PRIVATE_LIMIT}
 use Rattle.hx_tree.specs.Numbers.{is_zero}
 use Rattle.hx_tree.specs.Tree.{Program}
-use Rattle.hx_tree.specs.World.{World, Answer, Gives, Faults, Unfinished, Run, ◌>>=◌, gives, unfinished, Environment, count_turn}
+use Rattle.hx_tree.specs.World.{World, Gives, Run, ◌>>=◌, unfinished, Environment, count_turn}
 use Rattle.hx_tree.specs.Effect.{Exit, GoesOn, Breaks, Continues, Returns, Effect, Context, goes_on, end_turn, loop}
 use Rattle.hx_check.specs.Symbols.{Scopes}
-use Rattle.hx_code.specs.declared.table.Carried.{Carried}
 use Rattle.hx_code.specs.Code.{CodeView}
 use Rattle.hx_code.specs.Machine.{Machine}
 use Rattle.hx_lowering.specs.Lines.{Version, cell_of}
 use Rattle.hx_lowering.specs.Draft.{Targets}
 use Rattle.hx_lowering.proofs.Globals.{words_in}
-use Rattle.hx_lowering.proofs.Follow.{Follows, Reaches, follows_then, follows_fewer, at_once}
+use Rattle.hx_lowering.proofs.Follow.{Follows, follows_then, follows_fewer}
 use Rattle.hx_lowering.proofs.Setting.{Memory, Ground, is_active, Back}
 use Rattle.hx_lowering.proofs.At.{layout_of, world_at, At, not_over}
 use Rattle.hx_lowering.proofs.Names.{env_of}
@@ -93,14 +92,14 @@ module _ (p : Program) (code : CodeView) where
   -- the turns of a loop that begin at start, where its body has the targets of the scene
   pub turns_follow : (s : Scene) (scopes : Scopes) (start after behind : ℕ) (counted : Bool) (test : Environment → Run ℤ) (body : Environment → Effect) (step : Environment → Run Environment) (Done : Exit × Environment → World → Machine → Type 0)
       → ((n : ℕ) → n ≤ s.context.turns → (ps cells : List ℤ) → Holds s ps cells → (w : World) (m : Machine) → At p code s.ground start ps [] cells w m → (f g : Run (Exit × Environment))
-        → ((w' : World) (m' : Machine) → At p code s.ground s.to.break_to ps [] cells w' m' → Follows code n m' (f w') Done)
-        → ((w' : World) (m' : Machine) → At p code s.ground after ps [] cells w' m' → Follows code n m' (g w') Done)
-        → Follows code n m ((test (env_of scopes (held s ps cells)) >>= (λ v. if is_zero v then f else g)) w) Done)
+      → ((w' : World) (m' : Machine) → At p code s.ground s.to.break_to ps [] cells w' m' → Follows code n m' (f w') Done)
+      → ((w' : World) (m' : Machine) → At p code s.ground after ps [] cells w' m' → Follows code n m' (g w') Done)
+      → Follows code n m ((test (env_of scopes (held s ps cells)) >>= (λ v. if is_zero v then f else g)) w) Done)
       → ((ps cells : List ℤ) → Holds s ps cells → (w : World) (m : Machine) → At p code s.ground after ps [] cells w m → Follows code s.context.turns m (body (env_of scopes (held s ps cells)) w) (Ends s scopes s.to.continue_to))
       → ((env : Environment) (w : World) (m : Machine) → Stands s scopes s.to.continue_to env w m → Follows code s.context.turns m (step env w) (λ env' w' m'. Stands s scopes behind env' w' m'))
       → ((n : ℕ) (env : Environment) (w : World) (m : Machine) (next : Environment → Effect) → Stands s scopes behind env w m
-        → ((ps cells : List ℤ) → Holds s ps cells → (w' : World) (m' : Machine) → At p code s.ground start ps [] cells w' m' → env ≡ env_of scopes (held s ps cells) → Follows code n m' (next env w') Done)
-        → Follows code (suc n) m ((count_turn counted >>= (λ done. next env)) w) Done)
+      → ((ps cells : List ℤ) → Holds s ps cells → (w' : World) (m' : Machine) → At p code s.ground start ps [] cells w' m' → env ≡ env_of scopes (held s ps cells) → Follows code n m' (next env w') Done)
+      → Follows code (suc n) m ((count_turn counted >>= (λ done. next env)) w) Done)
       → ((n : ℕ) (env : Environment) (w : World) (m : Machine) → Stands s scopes s.to.break_to env w m → Follows code n m (goes_on env w) Done)
       → ((n : ℕ) (v : ℤ) (env : Environment) (w : World) (m : Machine) → Came s v w m → Follows code n m (Gives (Returns v, env) w) Done)
       → (n : ℕ) → n ≤ s.context.turns → (ps cells : List ℤ) → Holds s ps cells → (w : World) (m : Machine) → At p code s.ground start ps [] cells w m
@@ -113,12 +112,12 @@ module _ (p : Program) (code : CodeView) where
       let env = env_of scopes (held s ps cells) in
       let next = loop n counted test body step in
       let more : (env' : Environment) (w' : World) (m' : Machine) → Stands s scopes s.to.continue_to env' w' m'
-          → Follows code (suc n) m' ((step env' >>= (λ env''. count_turn counted >>= (λ done. next env''))) w') Done = λ env' w' m' stands.
-          follows_then code (suc n) m' (step env' w') (λ env''. count_turn counted >>= (λ done. next env'')) (λ env'' w'' m''. Stands s scopes behind env'' w'' m'') Done
-          (follows_fewer code s.context.turns (suc n) m' (step env' w') _ le (hs env' w' m' stands))
-          (λ env'' w'' m'' stands'. again n env'' w'' m'' next stands'
-          (λ ps' cells' holds' w3 m3 at3 env_is. subst (λ x. Follows code n m3 (next x w3) Done) (sym env_is)
-          (turns_follow s scopes start after behind counted test body step Done ht hb hs again leaves returned n (omega arith) ps' cells' holds' w3 m3 at3))) in
+      → Follows code (suc n) m' ((step env' >>= (λ env''. count_turn counted >>= (λ done. next env''))) w') Done = λ env' w' m' stands.
+      follows_then code (suc n) m' (step env' w') (λ env''. count_turn counted >>= (λ done. next env'')) (λ env'' w'' m''. Stands s scopes behind env'' w'' m'') Done
+      (follows_fewer code s.context.turns (suc n) m' (step env' w') _ le (hs env' w' m' stands))
+      (λ env'' w'' m'' stands'. again n env'' w'' m'' next stands'
+      (λ ps' cells' holds' w3 m3 at3 env_is. subst (λ x. Follows code n m3 (next x w3) Done) (sym env_is)
+      (turns_follow s scopes start after behind counted test body step Done ht hb hs again leaves returned n (omega arith) ps' cells' holds' w3 m3 at3))) in
       ht (suc n) le ps cells holds w m at (goes_on env) (body env >>= (λ out. end_turn out.0 counted step next out.1))
       (λ w' m' at'. leaves (suc n) _ w' m' (record { ps = ps; cells = cells; holds = holds; at = at'; env_is = refl }))
       (λ w' m' at'. follows_then code (suc n) m' (body env w') (λ out. end_turn out.0 counted step next out.1) (Ends s scopes s.to.continue_to) Done
@@ -127,7 +126,7 @@ module _ (p : Program) (code : CodeView) where
     where
       ended : (exit : Exit) (env' : Environment) (w' : World) (m' : Machine) → EndsBy s scopes s.to.continue_to exit env' w' m'
           → ((env' : Environment) (w' : World) (m' : Machine) → Stands s scopes s.to.continue_to env' w' m'
-            → Follows code (suc n) m' ((step env' >>= (λ env''. count_turn counted >>= (λ done. loop n counted test body step env''))) w') Done)
+          → Follows code (suc n) m' ((step env' >>= (λ env''. count_turn counted >>= (λ done. loop n counted test body step env''))) w') Done)
           → Follows code (suc n) m' (end_turn exit counted step (loop n counted test body step) env' w') Done
       ended GoesOn env' w' m' ends more = more env' w' m' ends
       ended Continues env' w' m' ends more = more env' w' m' ends.1

@@ -1,19 +1,18 @@
 -- Where a call runs: in the program itself, or in an iteration of a region; and what each word does there.
-use Rattle.std.proofs.Common.{◌≡◌, ℕ, zero, suc, ◌+◌, ◌-◌, ◌≤◌, ◌^◌, ◌%◌, Bool, true, false, List, [], ◌∷◌, ◌++◌, length, take, drop, Option, Some, None, ℤ, pos, refl, sym, ap, subst, ◌∙◌, arith, if◌then◌else◌, length-append}
-use Rattle.std.specs.Prelude.{nat_le, slice_set, slice_get, slice_index_or, min}
+use Rattle.std.proofs.Common.{◌≡◌, ℕ, ◌+◌, ◌^◌, ◌%◌, Bool, true, false, List, [], ◌∷◌, ◌++◌, length, Some, None, ℤ, pos, refl, sym, ap, subst, ◌∙◌, arith, if◌then◌else◌, length-append}
+use Rattle.std.specs.Prelude.{nat_le, slice_set, slice_index_or}
 use Rattle.hx_tree.specs.declared.token.Pos.{Pos}
 use Rattle.hx_tree.specs.declared.outcome.Fault.{Fault}
 use Rattle.hx_tree.specs.declared.outcome.FaultKind.TheVariants.{TextFull}
 use Rattle.hx_tree.specs.declared.outcome.End.{End}
 use Rattle.hx_tree.specs.declared.outcome.End.TheVariants as end
 use Rattle.hx_tree.specs.declared.limits.TheConstants.{TEXT_LIMIT}
-use Rattle.hx_code.specs.declared.word.Word.{Word}
 use Rattle.hx_code.specs.declared.word.Output.{Output}
 use Rattle.hx_code.specs.declared.word.Ask.{Ask}
 use Rattle.hx_code.specs.declared.word.Ask.TheVariants as ask
 use Rattle.hx_code.specs.declared.word.Exit.TheVariants as exit
 use Rattle.hx_code.specs.Code.{CodeView, region_of}
-use Rattle.hx_code.specs.Call.{at_place, CallView, Want, Asks, wants_at, fault_at, bytes_of}
+use Rattle.hx_code.specs.Call.{at_place, CallView, Asks, wants_at, fault_at, bytes_of}
 use Rattle.hx_code.specs.Local.{LocalView, by_want, pushed, begun}
 use Rattle.hx_code.specs.Region.{held, Opened, RegionState, region_want, into_cells, from_cells, iteration_words}
 use Rattle.hx_code.specs.Machine.{Machine, machine_step, does_want, region_next, opened_by, returns}
@@ -67,7 +66,12 @@ passed b x y e = ap (λ t. if t then x else y) e
 abbrev pub at_outside : List CallView → CallView → Memory → Machine
 at_outside rest c m = record {
   local = record { below = 0; region = None; calls = c ∷ rest };
-  store = m.store; text = m.text; turns = held m.turns; regions = m.regions; within = None; end = None;
+  store = m.store;
+  text = m.text;
+  turns = held m.turns;
+  regions = m.regions;
+  within = None;
+  end = None;
 }
 
 pub outside_does : (code : CodeView) (rest : List CallView) (c d : CallView) (m : Memory) (a : Ask) → wants_at code c ≡ Asks a d
@@ -125,8 +129,13 @@ iteration_local o rest c = record { below = (opened_so o).below; region = Some o
 
 abbrev pub at_iteration : Opener → List CallView → CallView → Memory → RegionState
 at_iteration o rest c m = record {
-  opened = opened_so o; iteration = m.iteration; local = iteration_local o rest c;
-  store = m.store; text = m.text; turns = held m.turns; exit = None;
+  opened = opened_so o;
+  iteration = m.iteration;
+  local = iteration_local o rest c;
+  store = m.store;
+  text = m.text;
+  turns = held m.turns;
+  exit = None;
 }
 
 abbrev pub outer : Opener → Machine
@@ -141,7 +150,7 @@ then_so code o z m = region_next code z.exit z m
 
 pub inside_does : (code : CodeView) (o : Opener) (rest : List CallView) (c d : CallView) (m : Memory) (a : Ask) → wants_at code c ≡ Asks a d
     → machine_step code (at_inside o rest c m)
-      ≡ then_so code o (region_want code (by_want code (iteration_local o rest c) rest (Asks a d)) (at_iteration o rest c m)) (at_inside o rest c m)
+    ≡ then_so code o (region_want code (by_want code (iteration_local o rest c) rest (Asks a d)) (at_iteration o rest c m)) (at_inside o rest c m)
 inside_does code o rest c d m a e =
     ap (λ w. then_so code o (region_want code (by_want code (iteration_local o rest c) rest w) (at_iteration o rest c m)) (at_inside o rest c m)) e
 
@@ -177,28 +186,32 @@ inside code o rest = record {
 
 pub opens_at : (code : CodeView) (rest : List CallView) (c : CallView) (m : Memory) (r t : ℕ) → wants_at code c ≡ Asks (ask.Enters r t) c
     → machine_step code (at_outside rest c m)
-      ≡ at_inside (record { region = r; call = c; rest = rest; store = m.store; text = m.text; turns = m.turns; regions = m.regions }) []
-        (begun (region_of code r).start (iteration_words (region_of code r) c.privates 0))
-        (record { store = into_cells code.globals (region_of code r).carried c.privates m.store; text = []; turns = 0; regions = 0; iteration = 0 })
+    ≡ at_inside (record { region = r; call = c; rest = rest; store = m.store; text = m.text; turns = m.turns; regions = m.regions }) []
+    (begun (region_of code r).start (iteration_words (region_of code r) c.privates 0))
+    (record { store = into_cells code.globals (region_of code r).carried c.privates m.store; text = []; turns = 0; regions = 0; iteration = 0 })
 opens_at code rest c m r t e = outside_does code rest c c m _ e
 
 pub turns_at : (code : CodeView) (o : Opener) (c d : CallView) (m : Memory) → wants_at code c ≡ Asks ask.Turns d
     → machine_step code (at_inside o [] c m)
-      ≡ at_inside o [] (begun (region_of code o.region).start (iteration_words (region_of code o.region) o.call.privates ((m.iteration + 1) % 2 ^ 64)))
-        (record m { turns = m.turns + 1; iteration = (m.iteration + 1) % 2 ^ 64 })
+    ≡ at_inside o [] (begun (region_of code o.region).start (iteration_words (region_of code o.region) o.call.privates ((m.iteration + 1) % 2 ^ 64)))
+    (record m { turns = m.turns + 1; iteration = (m.iteration + 1) % 2 ^ 64 })
 turns_at code o c d m e =
     inside_does code o [] c d m _ e
     ∙ ap (λ n. record (outer o) { within = Some (record (at_iteration o [] (begun (region_of code o.region).start (iteration_words (region_of code o.region) o.call.privates ((m.iteration + 1) % 2 ^ 64))) m) { iteration = (m.iteration + 1) % 2 ^ 64; turns = n }) }) (held_one m.turns)
 
 pub leaves_at : (code : CodeView) (o : Opener) (c d : CallView) (m : Memory) → wants_at code c ≡ Asks ask.Leaves d
     → machine_step code (at_inside o [] c m)
-      ≡ at_outside o.rest (record { place = (region_of code o.region).exit; privates = from_cells code.globals (region_of code o.region).carried m.store o.call.privates; operands = o.call.operands })
-        (record { store = m.store; text = o.text ++ m.text; turns = o.turns + m.turns; regions = held (o.regions + 1); iteration = 0 })
+    ≡ at_outside o.rest (record { place = (region_of code o.region).exit; privates = from_cells code.globals (region_of code o.region).carried m.store o.call.privates; operands = o.call.operands })
+    (record { store = m.store; text = o.text ++ m.text; turns = o.turns + m.turns; regions = held (o.regions + 1); iteration = 0 })
 leaves_at code o c d m e =
     inside_does code o [] c d m _ e
     ∙ ap (λ n. record (outer o) {
       local = record { below = 0; region = None; calls = record { place = (region_of code o.region).exit; privates = from_cells code.globals (region_of code o.region).carried m.store o.call.privates; operands = o.call.operands } ∷ o.rest };
-      store = m.store; text = o.text ++ m.text; turns = n; regions = held (o.regions + 1) }) (held_more o.turns m.turns)
+      store = m.store;
+      text = o.text ++ m.text;
+      turns = n;
+      regions = held (o.regions + 1);
+    }) (held_more o.turns m.turns)
 
 -- ---- both
 
@@ -249,7 +262,13 @@ inside_returns code o [] c d m v e = subst (OutsideBack code o.rest v (memory_be
     go : (rest : List CallView) → OutsideBack code rest v (memory_behind o m)
         (returns v (o.call ∷ rest) (record {
           local = record { below = 0; region = None; calls = o.call ∷ rest };
-          store = m.store; text = o.text ++ m.text; turns = held (held o.turns + held m.turns); regions = held (o.regions + 1); within = None; end = None }))
+          store = m.store;
+          text = o.text ++ m.text;
+          turns = held (held o.turns + held m.turns);
+          regions = held (o.regions + 1);
+          within = None;
+          end = None;
+        }))
     go [] = record { finish = refl; text = refl; store = refl; turns = held_more o.turns m.turns }
     go (b ∷ rest) = ap (λ n. record (at_outside rest (pushed v b) (memory_behind o m)) { turns = n }) (held_more o.turns m.turns)
 inside_returns code o (b ∷ rest) c d m v e = inside_does code o (b ∷ rest) c d m _ e

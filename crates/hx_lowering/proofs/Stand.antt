@@ -1,17 +1,17 @@
 -- Words that stand in code.
-use Rattle.std.proofs.Common.{◌≡◌, ℕ, zero, suc, ◌+◌, ◌≤◌, List, [], ◌∷◌, ◌++◌, length, map, Option, Some, None, pos, refl, sym, ap, subst, ◌∙◌, arith, length-append, append_assoc}
+use Rattle.std.proofs.Common.{◌≡◌, ℕ, ◌+◌, List, [], ◌∷◌, ◌++◌, length, map, Some, pos, refl, ap, ◌∙◌, arith, length-append, append_assoc}
 use Rattle.std.specs.Prelude.{slice_get, option_map}
 use Rattle.std.proofs.lemmas.Option.{slice_get-map}
 use Rattle.hx_tree.specs.declared.tree.BinaryOp.TheVariants.{Strict, And, Or}
 use Rattle.hx_check.specs.Resolved as resolved
 use Rattle.hx_check.specs.Resolved.{Expr, Exprs, Assignment, Simple}
 use Rattle.hx_code.specs.declared.word.Word.{Word}
-use Rattle.hx_code.specs.declared.word.Word.TheVariants.{Const, Priv, SetPriv, Glob, SetGlob, Elem, SetElem, Dup, Unary, Binary, Jump, JumpFalse, JumpTrue, Call}
+use Rattle.hx_code.specs.declared.word.Word.TheVariants.{Const, Elem, Unary, Binary, Jump, JumpFalse, JumpTrue, Call}
 use Rattle.hx_code.specs.declared.table.Spot.{Spot}
 use Rattle.hx_code.specs.Code.{CodeView}
 use Rattle.hx_lowering.specs.declared.line.Line.{Line}
-use Rattle.hx_lowering.specs.Size.{expr_size, exprs_size, assignment_size, simple_size, simples_size, test_size, step_size}
-use Rattle.hx_lowering.specs.Lines.{Version, put, get_private, set_private, array_of, count, expr_lines, exprs_lines, assignment_lines, simple_lines, simples_lines, test_lines, step_lines}
+use Rattle.hx_lowering.specs.Size.{expr_size, exprs_size}
+use Rattle.hx_lowering.specs.Lines.{Version, put, array_of, count, expr_lines, exprs_lines}
 
 abbrev pub words_of : List Line → List Word
 words_of lines = map (λ (line : Line). line.word) lines

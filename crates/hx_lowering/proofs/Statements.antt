@@ -1,6 +1,6 @@
 -- The words of a statement do what it does.
-use Rattle.std.proofs.Common.{◌≡◌, ℕ, zero, suc, ◌+◌, ◌≤◌, ◌<◌, Bool, true, false, List, [], ◌∷◌, ◌++◌, length, Option, Some, None, ℤ, pos, refl, sym, ap, subst, ◌∙◌, arith, if◌then◌else◌}
-use Rattle.std.specs.Prelude.{nat_eq, nat_lt, slice_index_or, slice_get, option_map, IsTrue, ◌||◌, ◌&&◌, not, ◌%◌}
+use Rattle.std.proofs.Common.{◌≡◌, ℕ, suc, ◌+◌, ◌≤◌, ◌<◌, Bool, true, false, List, [], ◌∷◌, ◌++◌, length, Option, Some, None, ℤ, pos, refl, sym, ap, subst, ◌∙◌, arith, if◌then◌else◌}
+use Rattle.std.specs.Prelude.{nat_eq, nat_lt, slice_index_or, slice_get, IsTrue, ◌||◌, ◌&&◌, not, ◌%◌}
 use Rattle.std.specs.Int.{w32, cast_unsigned}
 use Rattle.std.specs.Fmt.{signed_decimal}
 use Rattle.std.proofs.lemmas.Bool.{ltb-true}
@@ -13,29 +13,26 @@ use Rattle.hx_tree.specs.Numbers.{is_zero}
 use Rattle.hx_tree.specs.Tree as tree
 use Rattle.hx_tree.specs.Tree.{Program, Name}
 use Rattle.hx_tree.specs.World.{Map, declare, World, Answer, Gives, Faults, Unfinished, Run, and_then, ◌>>=◌, gives, Environment, enter_scope, leave_scope, print_bytes}
-use Rattle.hx_tree.specs.Value.{Calling, value, values}
-use Rattle.hx_tree.specs.Effect.{Exit, GoesOn, Breaks, Continues, Returns, Effect, Context, goes_on, go_on, inside as inside_context, is_counted, loop, step_of, call_in, value_or, declare_all, begin, effect, effects, part_effect, assign}
-use Rattle.hx_tree.specs.Accepted.{Surroundings, AcceptsStmt, AcceptsParts, AcceptsExpr, AcceptsReturn, AcceptsInit, AcceptsLocals, after_init, with_name, with_local, with_locals, IfThere, in_scope, inside_loop, stmt_locals, part_locals, parts_locals, init_locals, FunctionKind, count as tree_count}
-use Rattle.hx_check.specs.declared.symbol.Symbol.{Symbol}
-use Rattle.hx_check.specs.Resolved as resolved
+use Rattle.hx_tree.specs.Value.{value, values}
+use Rattle.hx_tree.specs.Effect.{Exit, GoesOn, Breaks, Continues, Returns, Effect, goes_on, go_on, inside as inside_context, is_counted, loop, step_of, call_in, value_or, declare_all, begin, effect, effects, assign}
+use Rattle.hx_tree.specs.Accepted.{Surroundings, AcceptsStmt, AcceptsParts, AcceptsExpr, AcceptsReturn, AcceptsInit, AcceptsLocals, after_init, with_name, with_local, with_locals, IfThere, in_scope, inside_loop, stmt_locals, parts_locals, init_locals, FunctionKind, count as tree_count}
 use Rattle.hx_check.specs.Symbols.{Scopes, symbols_of, with_word, with_words, words_after_init}
 use Rattle.hx_check.specs.Carried.{expr_reads, stmt_reads, stmts_read, clauses_read, any_of, if_any, assignment_reads, simple_reads, assigns, simple_assigns, simple_declares, stmt_assigns, stmts_assign, stmt_declares, stmts_declare, turns_read, turns_assign}
 use Rattle.hx_check.specs.Resolve as resolve
 use Rattle.hx_check.specs.Resolve.{resolve_expr, resolve_exprs, function_at, resolve_assignment, resolve_stmt, resolve_parts, expr_or_zero}
 use Rattle.hx_code.specs.declared.word.Word.TheVariants.{Jump, JumpFalse, Print, Emit, Ret, Const, Call, Drop}
 use Rattle.hx_code.specs.declared.word.Output.TheVariants as output
-use Rattle.hx_code.specs.declared.word.Ask.TheVariants as ask
 use Rattle.hx_code.specs.Code.{CodeView}
-use Rattle.hx_code.specs.Call.{CallView, Asks, wants_of, low_byte}
+use Rattle.hx_code.specs.Call.{wants_of, low_byte}
 use Rattle.hx_code.specs.Machine.{Machine, machine_step}
 use Rattle.hx_lowering.specs.declared.line.Line.{Line}
-use Rattle.hx_lowering.specs.Lines.{Version, put, set_private, count, expr_lines, exprs_lines, assignment_lines, simples_lines}
+use Rattle.hx_lowering.specs.Lines.{put, set_private, count, expr_lines, exprs_lines, assignment_lines, simples_lines}
 use Rattle.hx_lowering.specs.Size.{expr_size, stmt_size}
-use Rattle.hx_lowering.specs.Draft.{Draft, Targets, with_lines, put_word, inside, loop_draft, stmt_draft, stmts_draft}
+use Rattle.hx_lowering.specs.Draft.{Draft, with_lines, put_word, loop_draft, stmt_draft, stmts_draft}
 use Rattle.hx_lowering.proofs.Globals.{words_in}
-use Rattle.hx_lowering.proofs.Follow.{Follows, follows_then, at_once, steps_to}
-use Rattle.hx_lowering.proofs.Setting.{Ground, Inside, is_active, Back, returns_back}
-use Rattle.hx_lowering.proofs.Stand.{Has, has_before, has_expr, word_stands, length-put, length-expr}
+use Rattle.hx_lowering.proofs.Follow.{Follows, follows_then, at_once}
+use Rattle.hx_lowering.proofs.Setting.{Back, returns_back}
+use Rattle.hx_lowering.proofs.Stand.{Has, has_before, word_stands, length-put, length-expr}
 use Rattle.hx_lowering.proofs.At.{layout_of, call_at, At, at_place, goes_to, prints_to}
 use Rattle.hx_lowering.proofs.Names.{env_of, names_of, Around}
 use Rattle.hx_lowering.proofs.Values.{Leaves, value_at, word_goes, jump_follows, or_left, or_right}
@@ -44,9 +41,9 @@ use Rattle.hx_lowering.proofs.Locals.{Tidy, tidy_more, tidy_scope, tidy_word, de
 use Rattle.hx_lowering.proofs.Taken.{unfixed_read, unfixed_write, unkept_write, own_unfixed, own_unkept}
 use Rattle.hx_lowering.proofs.Declares.{reads_then, assigns_then, declares_then, draft_then, declares_from}
 use Rattle.hx_lowering.proofs.Writes.{private_written}
-use Rattle.hx_lowering.proofs.Assigns.{Free, Loose, Behind, value_here, values_here, call_here, assign_follows}
+use Rattle.hx_lowering.proofs.Assigns.{Free, Loose, value_here, values_here, call_here, assign_follows}
 use Rattle.hx_lowering.proofs.Calling.{onto}
-use Rattle.hx_lowering.proofs.Drafts.{HasDraft, has_word, has_lines, has_stmt, has_stmts, has_simples, has_loop, length-stmt}
+use Rattle.hx_lowering.proofs.Drafts.{HasDraft, has_word, has_stmt, has_stmts, has_simples, has_loop, length-stmt}
 use Rattle.hx_lowering.proofs.Loops.{clauses_of}
 use Rattle.hx_lowering.proofs.Marked.{loop_follows}
 use Rattle.hx_lowering.proofs.Flat.{flat_stmt}
@@ -140,8 +137,11 @@ module _ (p : Program) (code : CodeView) (words : code.globals ≡ words_in (lay
   returns_it s scopes n env v h lines has ps cells holds w m place at =
       let c = call_at (length lines) ps (v ∷ []) in
       let back = returns_back code s.ground c c at.memory v (ap (λ word. wants_of word c) (word_stands code s.version h Ret lines has)) in
-      record { steps = 1; enough = omega arith;
-        holds = record { memory = at.memory; back = subst (λ x. Back code s.ground v at.memory (machine_step code x)) (sym at.is) back; world = at.world; room = at.room; cells_are = λ cs e a. at.cells_are a ∙ holds.freezes cs e } }
+      record {
+        steps = 1;
+        enough = omega arith;
+        holds = record { memory = at.memory; back = subst (λ x. Back code s.ground v at.memory (machine_step code x)) (sym at.is) back; world = at.world; room = at.room; cells_are = λ cs e a. at.cells_are a ∙ holds.freezes cs e };
+      }
 
   return_value : (s : Scene) → Fair p code s → (next : ℕ) (scopes : Scopes) → Tidy next scopes → next ≤ s.privates → (here : Surroundings) → Around p scopes here → (o : Option tree.Expr) → AcceptsReturn here.returns o here
       → Free s (λ k. expr_reads k (expr_or_zero o (symbols_of p) scopes))
@@ -222,7 +222,7 @@ module _ (p : Program) (code : CodeView) (words : code.globals ≡ words_in (lay
       → (lines : List Line) → Has code (expr_lines (expr_or_zero o (symbols_of p) scopes) s.version 0 lines)
       → (ps cells : List ℤ) (w : World) (m : Machine) → At p code s.ground (length lines) ps [] cells w m
       → Follows code s.context.turns m (value_or (pos 0) o (call_in s.context) (env_of scopes (held s ps cells)) w)
-        (Leaves p code s.ground s.version words fair.globals fair.carries (expr_lines (expr_or_zero o (symbols_of p) scopes) s.version 0 lines) ps [] cells)
+      (Leaves p code s.ground s.version words fair.globals fair.carries (expr_lines (expr_or_zero o (symbols_of p) scopes) s.version 0 lines) ps [] cells)
   first_value s fair next scopes tidy fits here around None ok free lines has ps cells w m at =
       value_here p code words s fair next scopes tidy fits here around (tree.Number 0) (omega arith) free 0 ps [] cells lines has w m at
   first_value s fair next scopes tidy fits here around (Some e) ok free lines has ps cells w m at =
@@ -233,7 +233,7 @@ module _ (p : Program) (code : CodeView) (words : code.globals ≡ words_in (lay
       → (lines : List Line) → Has code (simples_lines (resolve.resolve_locals ds (symbols_of p) scopes k) s.version lines)
       → (ps cells : List ℤ) → Holds s ps cells → (w : World) (m : Machine) → At p code s.ground (length lines) ps [] cells w m
       → Follows code s.context.turns m (declare_all ds (call_in s.context) (env_of scopes (held s ps cells)) w)
-        (λ env' w' m'. Stands p code s (with_words ds scopes k) (length (simples_lines (resolve.resolve_locals ds (symbols_of p) scopes k) s.version lines)) env' w' m')
+      (λ env' w' m'. Stands p code s (with_words ds scopes k) (length (simples_lines (resolve.resolve_locals ds (symbols_of p) scopes k) s.version lines)) env' w' m')
   locals_follow [] s fair scopes outer top k tidy fits here around ok free loose lines has ps cells holds w m at =
       at_once code m (λ m'. Stands p code s scopes (length lines) (env_of scopes (held s ps cells)) w m') (record { ps = ps; cells = cells; holds = holds; at = at; env_is = refl })
   locals_follow (d ∷ ds) s fair scopes outer top k tidy fits here around ok free loose lines has ps cells holds w m at =
@@ -255,12 +255,12 @@ module _ (p : Program) (code : CodeView) (words : code.globals ≡ words_in (lay
       (first_value s fair k scopes tidy (omega arith) here around d.init ok.0 (free_left s (λ j. expr_reads j e) (λ j. any_of (simple_reads j) rest) free) lines (has_before code v 1 (set_private v k) es has_line) ps cells w m at)
       (λ z w' m' at'. private_written p code words s fair n 1 k z ps [] cells holds loose_k.1 lt w' m' es (declare_all ds (call_in s.context) (declare env d.name.text z) w') Done has_line at'
       (λ ps' cells' m'' changed at''.
-        let env_is : declare env d.name.text z ≡ env_of scopes' (held s ps' cells') =
-        declared scopes outer top d.name.text k (held s ps cells) (held s ps' cells') z tidy (ap (λ o. fixed_or o (value_at v ps' cells' k)) loose_k.0 ∙ changed.here) (λ j ne. ap (fixed_or (s.fixed j)) (changed.others j ne)) in
-        subst (λ x. Follows code n m'' (declare_all ds (call_in s.context) x w') Done) (sym env_is)
-        (locals_follow ds s fair scopes' outer (top_word scopes outer top d.name.text k) (k + 1) (word_tidy scopes outer top d.name.text k tidy) (omega arith) (with_local d here) (word_around scopes outer top here d k around) ok.2
-        (free_right s (λ j. expr_reads j e) (λ j. any_of (simple_reads j) rest) free) (loose_right s (λ j. nat_eq k j) (λ j. any_of (simple_declares j) rest) loose)
-        line has ps' cells' changed.holds w' m'' at'')))
+      let env_is : declare env d.name.text z ≡ env_of scopes' (held s ps' cells') =
+      declared scopes outer top d.name.text k (held s ps cells) (held s ps' cells') z tidy (ap (λ o. fixed_or o (value_at v ps' cells' k)) loose_k.0 ∙ changed.here) (λ j ne. ap (fixed_or (s.fixed j)) (changed.others j ne)) in
+      subst (λ x. Follows code n m'' (declare_all ds (call_in s.context) x w') Done) (sym env_is)
+      (locals_follow ds s fair scopes' outer (top_word scopes outer top d.name.text k) (k + 1) (word_tidy scopes outer top d.name.text k tidy) (omega arith) (with_local d here) (word_around scopes outer top here d k around) ok.2
+      (free_right s (λ j. expr_reads j e) (λ j. any_of (simple_reads j) rest) free) (loose_right s (λ j. nat_eq k j) (λ j. any_of (simple_declares j) rest) loose)
+      line has ps' cells' changed.holds w' m'' at'')))
 
   -- what a `for` begins with
   begin_follows : (i : tree.Init) (s : Scene) → Fair p code s → (scopes : Scopes) (here : Surroundings) → Around p scopes here → (k : ℕ) → Tidy k scopes → k + init_locals i ≤ s.privates → AcceptsInit i (in_scope here)
@@ -269,21 +269,30 @@ module _ (p : Program) (code : CodeView) (words : code.globals ≡ words_in (lay
       → (lines : List Line) → Has code (simples_lines (resolve.resolve_init i (symbols_of p) ([] ∷ scopes) k) s.version lines)
       → (ps cells : List ℤ) → Holds s ps cells → (w : World) (m : Machine) → At p code s.ground (length lines) ps [] cells w m
       → Around p (words_after_init i ([] ∷ scopes) k) (after_init i (in_scope here))
-        × Top (words_after_init i ([] ∷ scopes) k) scopes
-        × Tidy (k + init_locals i) (words_after_init i ([] ∷ scopes) k)
-        × Follows code s.context.turns m (begin i (call_in s.context) (env_of ([] ∷ scopes) (held s ps cells)) w)
-          (λ env' w' m'. Stands p code s (words_after_init i ([] ∷ scopes) k) (length (simples_lines (resolve.resolve_init i (symbols_of p) ([] ∷ scopes) k) s.version lines)) env' w' m')
-  begin_follows tree.NoInit s fair scopes here around k tidy fits ok free loose fresh lines has ps cells holds w m at =
-      (scope_in scopes here around, ([], refl), tidy_more k (k + 0) ([] ∷ scopes) (omega arith) (tidy_scope k scopes tidy),
-      at_once code m (λ m'. Stands p code s ([] ∷ scopes) (length lines) (env_of ([] ∷ scopes) (held s ps cells)) w m') (record { ps = ps; cells = cells; holds = holds; at = at; env_is = refl }))
-  begin_follows (tree.InitLocals ds) s fair scopes here around k tidy fits ok free loose fresh lines has ps cells holds w m at =
-      (words_around ds ([] ∷ scopes) scopes ([], refl) (in_scope here) k (scope_in scopes here around), top_words ds ([] ∷ scopes) scopes ([], refl) k, words_tidy ds ([] ∷ scopes) scopes ([], refl) k (tidy_scope k scopes tidy),
-      locals_follow ds s fair ([] ∷ scopes) scopes ([], refl) k (tidy_scope k scopes tidy) fits (in_scope here) (scope_in scopes here around) ok free fresh lines has ps cells holds w m at)
+      × Top (words_after_init i ([] ∷ scopes) k) scopes
+      × Tidy (k + init_locals i) (words_after_init i ([] ∷ scopes) k)
+      × Follows code s.context.turns m (begin i (call_in s.context) (env_of ([] ∷ scopes) (held s ps cells)) w)
+      (λ env' w' m'. Stands p code s (words_after_init i ([] ∷ scopes) k) (length (simples_lines (resolve.resolve_init i (symbols_of p) ([] ∷ scopes) k) s.version lines)) env' w' m')
+  begin_follows tree.NoInit s fair scopes here around k tidy fits ok free loose fresh lines has ps cells holds w m at = (
+    scope_in scopes here around,
+    ([], refl),
+    tidy_more k (k + 0) ([] ∷ scopes) (omega arith) (tidy_scope k scopes tidy),
+    at_once code m (λ m'. Stands p code s ([] ∷ scopes) (length lines) (env_of ([] ∷ scopes) (held s ps cells)) w m') (record { ps = ps; cells = cells; holds = holds; at = at; env_is = refl }),
+  )
+  begin_follows (tree.InitLocals ds) s fair scopes here around k tidy fits ok free loose fresh lines has ps cells holds w m at = (
+    words_around ds ([] ∷ scopes) scopes ([], refl) (in_scope here) k (scope_in scopes here around),
+    top_words ds ([] ∷ scopes) scopes ([], refl) k,
+    words_tidy ds ([] ∷ scopes) scopes ([], refl) k (tidy_scope k scopes tidy),
+    locals_follow ds s fair ([] ∷ scopes) scopes ([], refl) k (tidy_scope k scopes tidy) fits (in_scope here) (scope_in scopes here around) ok free fresh lines has ps cells holds w m at,
+  )
   begin_follows (tree.InitAssign a) s fair scopes here around k tidy fits ok free loose fresh lines has ps cells holds w m at =
-      let ra = resolve_assignment a (symbols_of p) ([] ∷ scopes) in
-      (scope_in scopes here around, ([], refl), tidy_more k (k + 0) ([] ∷ scopes) (omega arith) (tidy_scope k scopes tidy),
-      assign_follows p code words s fair k ([] ∷ scopes) (tidy_scope k scopes tidy) (omega arith) (in_scope here) (scope_in scopes here around) a ok
-      (free_left s (λ j. assignment_reads j ra) (λ j. false) free) (loose_left s (λ j. assigns j ra) (λ j. false) loose) ps cells holds lines has w m at)
+      let ra = resolve_assignment a (symbols_of p) ([] ∷ scopes) in (
+        scope_in scopes here around,
+        ([], refl),
+        tidy_more k (k + 0) ([] ∷ scopes) (omega arith) (tidy_scope k scopes tidy),
+        assign_follows p code words s fair k ([] ∷ scopes) (tidy_scope k scopes tidy) (omega arith) (in_scope here) (scope_in scopes here around) a ok
+            (free_left s (λ j. assignment_reads j ra) (λ j. false) free) (loose_left s (λ j. assigns j ra) (λ j. false) loose) ps cells holds lines has w m at,
+      )
 
   -- past the other side of an `if`
   past_else : (s : Scene) (scopes : Scopes) (n place to behind : ℕ) → to ≡ behind → slice_get code.words place ≡ Some (Jump to) → (m : Machine) (a : Answer (Exit × Environment))
@@ -403,11 +412,11 @@ module _ (p : Program) (code : CodeView) (words : code.globals ≡ words_in (lay
         (value_here p code words s fair k scopes tidy (omega arith) here around test ok.0 (free_left s (λ j. expr_reads j rt) (λ j. stmt_reads j rs) free_first) 0 ps [] cells d.lines (has_before code v 1 (JumpFalse other_at) a has1.lines) w m at)
         (λ x w' m' at'. jump_follows p code s.ground v words fair.globals fair.carries n 1 other_at x ps [] cells w' m' a (effect other s.context env) (effect st s.context env) Done has1.lines at'
         (λ m'' at''. stmt_follows other s fair scopes here around loops (k + stmt_locals st) (tidy_more k (k + stmt_locals st) scopes (omega arith) tidy) (omega arith) ok.2 (free_right s (λ j. expr_reads j rt || stmt_reads j rs) reads_rest free)
-          (loose_right s (λ j. stmt_assigns j rs) (λ j. stmt_assigns j ro) loose) (loose_right s (λ j. stmt_declares j rs) (λ j. stmt_declares j ro) fresh) d3 has ps cells holds w' m''
-          (at_place p code s.ground other_at (length d3.lines) ps [] cells w' m'' at_other at''))
+        (loose_right s (λ j. stmt_assigns j rs) (λ j. stmt_assigns j ro) loose) (loose_right s (λ j. stmt_declares j rs) (λ j. stmt_declares j ro) fresh) d3 has ps cells holds w' m''
+        (at_place p code s.ground other_at (length d3.lines) ps [] cells w' m'' at_other at''))
         (λ m'' at''. past_else s scopes n (length d2.lines) behind (length done.lines) at_end (word_stands code v 0 (Jump behind) d2.lines has3.lines) m'' (effect st s.context env w')
-          (stmt_follows st s fair scopes here around loops k tidy (omega arith) ok.1 (free_right s (λ j. expr_reads j rt) (λ j. stmt_reads j rs) free_first)
-          (loose_left s (λ j. stmt_assigns j rs) (λ j. stmt_assigns j ro) loose) (loose_left s (λ j. stmt_declares j rs) (λ j. stmt_declares j ro) fresh) d1 has2 ps cells holds w' m'' at'')))
+        (stmt_follows st s fair scopes here around loops k tidy (omega arith) ok.1 (free_right s (λ j. expr_reads j rt) (λ j. stmt_reads j rs) free_first)
+        (loose_left s (λ j. stmt_assigns j rs) (λ j. stmt_assigns j ro) loose) (loose_left s (λ j. stmt_declares j rs) (λ j. stmt_declares j ro) fresh) d1 has2 ps cells holds w' m'' at'')))
     stmt_follows (tree.While marked test st) s fair scopes here around loops k tidy fits ok free loose fresh d has ps cells holds w m at =
         let rt = resolve_expr test (symbols_of p) scopes in
         let rs = resolve_stmt st (resolve.inside marked (around_of p s)) scopes k in
@@ -424,12 +433,12 @@ module _ (p : Program) (code : CodeView) (words : code.globals ≡ words_in (lay
         (λ d' fair' ps' cells' holds' w' m' at' has'. stmt_follows st _ fair' scopes (inside_loop here) (loop_in scopes here around) (λ e''. refl) k tidy fits ok.1 (free_right s (λ j. clauses_read j cs) (λ j. stmt_reads j rs) free) loose fresh _ has' ps' cells' (record { long = holds'.long; keeps = holds'.keeps; freezes = holds'.freezes }) w' m' at')
         (s.is_marked || marked)
         (λ e e' d' o number fair' ps' cells' holds' w' m' at' has'.
-          let base : ℕ → ℤ = λ j. slice_index_or o.call.privates j (pos 0) in
-          stmt_follows st _ fair' scopes (inside_loop here) (loop_in scopes here around) (λ e''. refl) k tidy fits ok.1
-          (λ j r. unfixed_read k reads_any writes_any base j (or_right (if_any (expr_reads j) cs.test || if_any (assignment_reads j) cs.step) (stmt_reads j rs) r))
-          (λ j r. (let a = or_right (if_any (assigns j) cs.step) (stmt_assigns j rs) r in (unfixed_write k reads_any writes_any base j a, unkept_write k reads_any writes_any base j a)))
-          (λ j r. (let own = not_below j k (stmt_declares j rs) (declares j) r in (own_unfixed k reads_any writes_any base j own, own_unkept k reads_any writes_any base j own)))
-          _ has' ps' cells' holds' w' m' at')
+        let base : ℕ → ℤ = λ j. slice_index_or o.call.privates j (pos 0) in
+        stmt_follows st _ fair' scopes (inside_loop here) (loop_in scopes here around) (λ e''. refl) k tidy fits ok.1
+        (λ j r. unfixed_read k reads_any writes_any base j (or_right (if_any (expr_reads j) cs.test || if_any (assignment_reads j) cs.step) (stmt_reads j rs) r))
+        (λ j r. (let a = or_right (if_any (assigns j) cs.step) (stmt_assigns j rs) r in (unfixed_write k reads_any writes_any base j a, unkept_write k reads_any writes_any base j a)))
+        (λ j r. (let own = not_below j k (stmt_declares j rs) (declares j) r in (own_unfixed k reads_any writes_any base j own, own_unkept k reads_any writes_any base j own)))
+        _ has' ps' cells' holds' w' m' at')
         d has ps cells holds w m at
     stmt_follows (tree.For marked h st) s fair scopes here around loops k tidy fits ok free loose fresh d has ps cells holds w m at =
         let v = s.version in
@@ -448,8 +457,8 @@ module _ (p : Program) (code : CodeView) (words : code.globals ≡ words_in (lay
         let loose_clauses = loose_left s (λ j. any_of (simple_assigns j) init || if_any (assigns j) cs.step) (λ j. stmt_assigns j rs) loose in
         let k1 = k + init_locals h.init in
         let b = begin_follows h.init s fair scopes here around k tidy (omega arith) ok.0
-          (free_left s (λ j. any_of (simple_reads j) init) (λ j. if_any (expr_reads j) cs.test) free_start) (loose_left s (λ j. any_of (simple_assigns j) init) (λ j. if_any (assigns j) cs.step) loose_clauses)
-          (loose_left s (λ j. any_of (simple_declares j) init) (λ j. stmt_declares j rs) fresh) d.lines has0.lines ps cells holds w m at in
+        (free_left s (λ j. any_of (simple_reads j) init) (λ j. if_any (expr_reads j) cs.test) free_start) (loose_left s (λ j. any_of (simple_assigns j) init) (λ j. if_any (assigns j) cs.step) loose_clauses)
+        (loose_left s (λ j. any_of (simple_declares j) init) (λ j. stmt_declares j rs) fresh) d.lines has0.lines ps cells holds w m at in
         let around1 = b.0 in
         let top1 = b.1 in
         let tidy1 = b.2 in
@@ -472,15 +481,15 @@ module _ (p : Program) (code : CodeView) (words : code.globals ≡ words_in (lay
         (λ e v' to d'. subst (λ b'. (stmt_draft (resolve_stmt st (record { symbols = symbols_of p; privates = s.privates; is_marked = b' }) sc1 k1) v' to d').regions ≡ d'.regions) (sym (or_right s.is_marked marked e)) (flat_stmt st (symbols_of p) s.privates sc1 k1 v' to d'))
         declares
         (λ d' fair' ps' cells' holds' w'' m'' at' has'. stmt_follows st _ fair' sc1 (inside_loop here1) (loop_in sc1 here1 around1) (λ e''. refl) k1 tidy1 fits_body ok.3 (free_right s (λ j. clauses_read j cs) (λ j. stmt_reads j rs) free)
-          (loose_right s (λ j. any_of (simple_assigns j) init || if_any (assigns j) cs.step) (λ j. stmt_assigns j rs) loose) (loose_right s (λ j. any_of (simple_declares j) init) (λ j. stmt_declares j rs) fresh) _ has' ps' cells' (record { long = holds'.long; keeps = holds'.keeps; freezes = holds'.freezes }) w'' m'' at')
+        (loose_right s (λ j. any_of (simple_assigns j) init || if_any (assigns j) cs.step) (λ j. stmt_assigns j rs) loose) (loose_right s (λ j. any_of (simple_declares j) init) (λ j. stmt_declares j rs) fresh) _ has' ps' cells' (record { long = holds'.long; keeps = holds'.keeps; freezes = holds'.freezes }) w'' m'' at')
         (s.is_marked || marked)
         (λ e e' d' o number fair' ps' cells' holds' w'' m'' at' has'.
-          let base : ℕ → ℤ = λ j. slice_index_or o.call.privates j (pos 0) in
-          stmt_follows st _ fair' sc1 (inside_loop here1) (loop_in sc1 here1 around1) (λ e''. refl) k1 tidy1 fits_body ok.3
-          (λ j r. unfixed_read k1 reads_any writes_any base j (or_right (if_any (expr_reads j) cs.test || if_any (assignment_reads j) cs.step) (stmt_reads j rs) r))
-          (λ j r. (let a = or_right (if_any (assigns j) cs.step) (stmt_assigns j rs) r in (unfixed_write k1 reads_any writes_any base j a, unkept_write k1 reads_any writes_any base j a)))
-          (λ j r. (let own = not_below j k1 (stmt_declares j rs) (declares j) r in (own_unfixed k1 reads_any writes_any base j own, own_unkept k1 reads_any writes_any base j own)))
-          _ has' ps' cells' holds' w'' m'' at')
+        let base : ℕ → ℤ = λ j. slice_index_or o.call.privates j (pos 0) in
+        stmt_follows st _ fair' sc1 (inside_loop here1) (loop_in sc1 here1 around1) (λ e''. refl) k1 tidy1 fits_body ok.3
+        (λ j r. unfixed_read k1 reads_any writes_any base j (or_right (if_any (expr_reads j) cs.test || if_any (assignment_reads j) cs.step) (stmt_reads j rs) r))
+        (λ j r. (let a = or_right (if_any (assigns j) cs.step) (stmt_assigns j rs) r in (unfixed_write k1 reads_any writes_any base j a, unkept_write k1 reads_any writes_any base j a)))
+        (λ j r. (let own = not_below j k1 (stmt_declares j rs) (declares j) r in (own_unfixed k1 reads_any writes_any base j own, own_unkept k1 reads_any writes_any base j own)))
+        _ has' ps' cells' holds' w'' m'' at')
         d0 has stands.ps stands.cells stands.holds w' m' stands.at)
         (λ out w'' m'' ends. at_once code m'' (λ x. EndsBy p code s scopes (length done.lines) out.0 (leave_scope out.1) w'' x)
         (leave_ends s sc1 scopes top1 (length done.lines) out.0 out.1 w'' m'' ends))))
@@ -518,11 +527,11 @@ module _ (p : Program) (code : CodeView) (words : code.globals ≡ words_in (lay
         (then_rest n m (declare_all ls (call_in s.context) (env_of scopes (held s ps cells)) w) (effects parts s.context) Done
         (follows_then code n m (declare_all ls (call_in s.context) (env_of scopes (held s ps cells)) w) (effects parts s.context) (λ env' w' m'. Stands p code s scopes' (length d1.lines) env' w' m') Done
         (locals_follow ls s fair scopes outer top k tidy (omega arith) here around ok.0 (free_left s (λ j. any_of (simple_reads j) ss) (λ j. stmts_read j rest) free')
-          (loose_left s (λ j. any_of (simple_declares j) ss) (λ j. stmts_declare j rest) fresh') d.lines has0.lines ps cells holds w m at)
+        (loose_left s (λ j. any_of (simple_declares j) ss) (λ j. stmts_declare j rest) fresh') d.lines has0.lines ps cells holds w m at)
         (λ env' w' m' stands. subst (λ x. Follows code n m' (effects parts s.context x w') Done) (sym stands.env_is)
         (parts_follow parts s fair scopes' outer (top_words ls scopes outer top k) (with_locals ls here) (words_around ls scopes outer top here k around) (λ e. loops (locals_in_loop ls here ∙ e)) (k + length ls) (words_tidy ls scopes outer top k tidy) (omega arith) ok.1
-          (free_right s (λ j. any_of (simple_reads j) ss) (λ j. stmts_read j rest) free')
-          (loose_right s (λ j. any_of (simple_assigns j) ss) (λ j. stmts_assign j rest) loose') (loose_right s (λ j. any_of (simple_declares j) ss) (λ j. stmts_declare j rest) fresh') d1 has1 stands.ps stands.cells stands.holds w' m' stands.at))))
+        (free_right s (λ j. any_of (simple_reads j) ss) (λ j. stmts_read j rest) free')
+        (loose_right s (λ j. any_of (simple_assigns j) ss) (λ j. stmts_assign j rest) loose') (loose_right s (λ j. any_of (simple_declares j) ss) (λ j. stmts_declare j rest) fresh') d1 has1 stands.ps stands.cells stands.holds w' m' stands.at))))
     parts_follow (tree.part_and (tree.Statement st) parts) s fair scopes outer top here around loops k tidy fits ok free loose fresh d has ps cells holds w m at =
         let rs = resolve_stmt st (around_of p s) scopes k in
         let k' = k + stmt_locals st in
@@ -532,8 +541,8 @@ module _ (p : Program) (code : CodeView) (words : code.globals ≡ words_in (lay
         let env = env_of scopes (held s ps cells) in
         follows_then code s.context.turns m (effect st s.context env w) (λ out. go_on out.0 (effects parts s.context) out.1) (Ends p code s scopes (length d1.lines)) (PartsEnd s outer (length done.lines))
         (stmt_follows st s fair scopes here around loops k tidy (omega arith) ok.0 (free_left s (λ j. stmt_reads j rs) (λ j. stmts_read j rest) free)
-          (loose_left s (λ j. stmt_assigns j rs) (λ j. stmts_assign j rest) loose) (loose_left s (λ j. stmt_declares j rs) (λ j. stmts_declare j rest) fresh) d (has_stmts code rest s.version s.to d1 has) ps cells holds w m at)
+        (loose_left s (λ j. stmt_assigns j rs) (λ j. stmts_assign j rest) loose) (loose_left s (λ j. stmt_declares j rs) (λ j. stmts_declare j rest) fresh) d (has_stmts code rest s.version s.to d1 has) ps cells holds w m at)
         (λ out w' m' ends. outer_ends s scopes outer top (length d1.lines) out.0 out.1 w' m' (effects parts s.context) (length done.lines) ends
         (λ m'' stands. subst (λ env'. Follows code s.context.turns m'' (effects parts s.context env' w') (PartsEnd s outer (length done.lines))) (sym stands.env_is)
         (parts_follow parts s fair scopes outer top here around loops k' (tidy_more k k' scopes (omega arith) tidy) (omega arith) ok.1 (free_right s (λ j. stmt_reads j rs) (λ j. stmts_read j rest) free)
-          (loose_right s (λ j. stmt_assigns j rs) (λ j. stmts_assign j rest) loose) (loose_right s (λ j. stmt_declares j rs) (λ j. stmts_declare j rest) fresh) d1 has stands.ps stands.cells stands.holds w' m'' stands.at)))
+        (loose_right s (λ j. stmt_assigns j rs) (λ j. stmts_assign j rest) loose) (loose_right s (λ j. stmt_declares j rs) (λ j. stmts_declare j rest) fresh) d1 has stands.ps stands.cells stands.holds w' m'' stands.at)))

@@ -1,18 +1,17 @@
 -- What a region takes along of the private words that are declared outside its turns.
-use Rattle.std.proofs.Common.{◌≡◌, ℕ, zero, suc, ◌+◌, ◌≤◌, ◌<◌, Bool, true, false, List, [], ◌∷◌, ◌++◌, length, drop, replicate, Option, Some, None, ℤ, pos, refl, sym, ap, subst, ◌∙◌, arith, if◌then◌else◌, ⊎_elim, ◌⊎◌, inl, inr}
-use Rattle.std.specs.Prelude.{nat_lt, not, ◌&&◌, ◌||◌, slice_index_or, filter}
-use Rattle.std.specs.List.{range_with_len}
+use Rattle.std.proofs.Common.{◌≡◌, ℕ, ◌≤◌, ◌<◌, Bool, true, false, List, length, Option, Some, None, ℤ, pos, refl, ap, ◌∙◌, arith, if◌then◌else◌}
+use Rattle.std.specs.Prelude.{nat_lt, not, ◌&&◌, ◌||◌, slice_index_or}
 use Rattle.std.proofs.lemmas.Bool.{lt-ltb, ltb-true}
-use Rattle.std.proofs.lemmas.List.{length-replicate, get_or-drop}
+use Rattle.std.proofs.lemmas.List.{length-replicate}
 use Rattle.hx_tree.specs.declared.limits.TheConstants.{CELL_LIMIT, PRIVATE_LIMIT}
 use Rattle.hx_check.specs.Resolved as resolved
 use Rattle.hx_check.specs.Resolved.{Clauses}
 use Rattle.hx_check.specs.Carried.{turns_read, turns_assign, turns_declare, is_carried, is_copied, region_of}
 use Rattle.hx_code.specs.Local.{blank}
-use Rattle.hx_code.specs.Region.{copied_words, into_cells, from_cells}
+use Rattle.hx_code.specs.Region.{copied_words}
 use Rattle.hx_lowering.specs.Lines.{cell_of}
 use Rattle.hx_lowering.specs.Draft.{cells_from}
-use Rattle.hx_lowering.proofs.Cells.{From, filter_rises, few_pass, Found, carried_found, carried_absent, cell_bounds, cells_apart, into_at, from_at, from_other, copied_at, length-copied}
+use Rattle.hx_lowering.proofs.Cells.{From, filter_rises, few_pass, carried_found, carried_absent, cell_bounds, copied_at}
 
 -- neither read nor assigned in the turns: no word of theirs looks at it
 abbrev pub fixed_in : ℕ → (reads writes : ℕ → Bool) → (ℕ → ℤ) → ℕ → Option ℤ

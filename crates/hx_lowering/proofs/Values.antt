@@ -1,21 +1,20 @@
 -- The words of an expression leave its value on top.
-use Rattle.std.proofs.Common.{◌≡◌, ℕ, zero, suc, ◌+◌, ◌≤◌, Bool, true, false, List, [], ◌∷◌, length, take, drop, Option, Some, None, ℤ, pos, refl, sym, ap, subst, ◌∙◌, arith, if◌then◌else◌}
-use Rattle.std.specs.Prelude.{slice_get, slice_index_or, option_map, IsTrue, not, ◌||◌, ◌&&◌, is_some, nat_lt, nat_eq}
+use Rattle.std.proofs.Common.{◌≡◌, ℕ, ◌+◌, Bool, true, false, List, ◌∷◌, length, Option, Some, None, ℤ, pos, refl, sym, ap, subst, ◌∙◌, arith, if◌then◌else◌}
+use Rattle.std.specs.Prelude.{slice_index_or, option_map, not, ◌||◌, nat_eq}
 use Rattle.std.proofs.lemmas.List.{get_or-drop}
 use Rattle.std.proofs.lemmas.Bool.Decides.{nat_tests}
 use Rattle.hx_tree.specs.declared.token.Pos.{Pos}
 use Rattle.hx_tree.specs.declared.tree.Operator.{Operator}
-use Rattle.hx_tree.specs.declared.tree.UnaryOp.{UnaryOp}
 use Rattle.hx_tree.specs.declared.tree.BinaryOp.TheVariants.{Strict, And, Or}
 use Rattle.hx_tree.specs.declared.outcome.FaultKind.TheVariants.{ZeroDivisor, IndexOutOfRange}
 use Rattle.hx_tree.specs.Numbers.{is_zero, truth, unary_value, operator_value}
 use Rattle.hx_tree.specs.Tree as tree
 use Rattle.hx_tree.specs.Tree.{Program, Name}
-use Rattle.hx_tree.specs.World.{World, Answer, Gives, Faults, Unfinished, Run, ◌>>=◌, gives, or_fault, Environment, local_value, words_of, word_at, read_element, look_up}
-use Rattle.hx_tree.specs.Value.{Calling, value, values, read_variable, operate}
+use Rattle.hx_tree.specs.World.{World, Answer, Gives, Run, ◌>>=◌, gives, or_fault, words_of, word_at, read_element, look_up}
+use Rattle.hx_tree.specs.Value.{Calling, value, values, operate}
 use Rattle.hx_tree.specs.declared.tree.Returns.{Returns}
 use Rattle.hx_tree.specs.declared.tree.Returns.TheVariants as returns
-use Rattle.hx_tree.specs.Accepted.{Surroundings, AcceptsExpr, AcceptsExprs, IntKind, ArrayKind, FunctionKind, kind_of, kinds_of, count as tree_count}
+use Rattle.hx_tree.specs.Accepted.{Surroundings, AcceptsExpr, AcceptsExprs, IntKind, FunctionKind, kind_of, kinds_of, count as tree_count}
 use Rattle.hx_check.specs.declared.resolved.Words.{Words}
 use Rattle.hx_check.specs.Resolved as resolved
 use Rattle.hx_check.specs.Symbols.{Scopes, private_word, symbols_of}
@@ -24,19 +23,18 @@ use Rattle.hx_check.specs.Resolve.{resolve_expr, resolve_exprs, function_at, var
 use Rattle.hx_code.specs.declared.word.Word.{Word}
 use Rattle.hx_code.specs.declared.word.Word.TheVariants.{Const, Priv, Glob, Elem, Unary, Binary, Jump, JumpFalse, JumpTrue, Call}
 use Rattle.hx_code.specs.declared.word.Ask.TheVariants as ask
-use Rattle.hx_code.specs.declared.table.Carried.{Carried}
 use Rattle.hx_code.specs.Code.{CodeView}
-use Rattle.hx_code.specs.Call.{or_fault as or_asks, CallView, Want, Asks, wants, at_index, element, fault_at}
+use Rattle.hx_code.specs.Call.{or_fault as or_asks, Asks, wants, at_index, fault_at}
 use Rattle.hx_code.specs.Machine.{Machine}
 use Rattle.hx_lowering.specs.declared.line.Line.{Line}
 use Rattle.hx_lowering.specs.Lines.{Version, put, cell_of, get_at, get_private, array_of, count, expr_lines, exprs_lines}
 use Rattle.hx_lowering.specs.Size.{expr_size}
-use Rattle.hx_lowering.proofs.Globals.{Layout, store_from, words_in, place_of}
+use Rattle.hx_lowering.proofs.Globals.{words_in, place_of}
 use Rattle.hx_lowering.proofs.Follow.{Follows, follows_then, follows_so, follows_last, at_once}
-use Rattle.hx_lowering.proofs.Setting.{Ground, is_active, Memory}
+use Rattle.hx_lowering.proofs.Setting.{Ground, is_active}
 use Rattle.hx_lowering.proofs.Stand.{Has, has_before, word_stands, has_expr, has_exprs, length-put, length-expr}
-use Rattle.hx_lowering.proofs.At.{layout_of, call_at, world_at, At, at_place, roomy, goes_to, loads_to, faults_to}
-use Rattle.hx_lowering.proofs.Names.{env_of, value_of, names_of, Around, int_is, array_is, function_here, word_of}
+use Rattle.hx_lowering.proofs.At.{layout_of, call_at, At, at_place, roomy, goes_to, loads_to, faults_to}
+use Rattle.hx_lowering.proofs.Names.{env_of, value_of, Around, int_is, array_is, function_here, word_of}
 use Rattle.hx_lowering.proofs.Calling.{onto, CallsFollow}
 
 -- what a version's code reads for a private word
@@ -246,7 +244,7 @@ module _ (p : Program) (code : CodeView) (K : Ground) (v : Version) (words : cod
           follows_then code n m (values es call (env_of scopes held) w) (λ vs. call f vs) (Stacks es es' ps os cells) (Leaves done ps os cells)
           (values_follow es ok.1 h held ps os cells reads lines (has_before code v (h + count (Rs es)) word es' has) w m at)
           (λ vs w' m' up. call_leaves f returns.Int vs (function_here p scopes here f returns.Int (length vs) around (ok.0 ∙ ap (λ k. Some (FunctionKind returns.Int k)) (sym up.0)))
-            (h + count (Rs es)) ps os cells es' has w' m' up.1)
+          (h + count (Rs es)) ps os cells es' has w' m' up.1)
       value_follows (tree.Paren e) ok h held ps os cells reads lines has w m at = value_follows e ok h held ps os cells reads lines has w m at
       value_follows (tree.Unary o e) ok h held ps os cells reads lines has w m at =
           let done = put v (h + 1) (Unary o) (expr_lines (R e) v h lines) in

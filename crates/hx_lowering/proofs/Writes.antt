@@ -1,22 +1,18 @@
 -- The words of an assignment write where it writes.
-use Rattle.std.proofs.Common.{◌≡◌, ℕ, zero, suc, ◌+◌, ◌≤◌, ◌<◌, Bool, true, false, List, [], ◌∷◌, length, take, drop, Option, Some, None, ℤ, pos, negsuc, refl, sym, ap, subst, ◌∙◌, arith, if◌then◌else◌, length-set, get_or-set_other, get_or-set_same}
-use Rattle.std.specs.Prelude.{slice_get, slice_set, slice_index_or, option_map, IsTrue, nat_lt, bytes_eq}
+use Rattle.std.proofs.Common.{◌≡◌, ℕ, ◌+◌, ◌≤◌, ◌<◌, Bool, true, false, List, [], ◌∷◌, length, take, drop, Option, Some, None, ℤ, pos, negsuc, refl, sym, ap, subst, ◌∙◌, arith, if◌then◌else◌, length-set, get_or-set_other, get_or-set_same}
+use Rattle.std.specs.Prelude.{slice_get, slice_set, option_map, nat_lt, bytes_eq}
 use Rattle.std.proofs.lemmas.List.{drop-set-lt, drop-set-add, length-drop}
-use Rattle.std.proofs.lemmas.Bool.{ltb-true, ltb-false, lt-ltb, le-ltb}
-use Rattle.hx_tree.specs.declared.token.Pos.{Pos}
+use Rattle.std.proofs.lemmas.Bool.{ltb-true, ltb-false, le-ltb}
 use Rattle.hx_tree.specs.declared.limits.TheConstants.{PRIVATE_LIMIT}
-use Rattle.hx_tree.specs.declared.tree.Operator.{Operator}
-use Rattle.hx_tree.specs.declared.tree.Operator.TheVariants.{Add, Sub}
 use Rattle.hx_tree.specs.declared.outcome.FaultKind.TheVariants.{IndexOutOfRange}
-use Rattle.hx_tree.specs.Tree as tree
 use Rattle.hx_tree.specs.Tree.{Program, Name}
-use Rattle.hx_tree.specs.World.{Map, look_up, World, Answer, Gives, Faults, Unfinished, Run, and_then, ◌>>=◌, gives, or_fault, Environment, local_value, set_local, words_of, with_word, set_word, write_element, read_element, replace_store}
+use Rattle.hx_tree.specs.World.{Map, look_up, World, Answer, Run, and_then, ◌>>=◌, or_fault, words_of, with_word, set_word, write_element, replace_store}
 use Rattle.hx_check.specs.declared.resolved.Words.{Words}
 use Rattle.hx_code.specs.declared.word.Word.{Word}
 use Rattle.hx_code.specs.declared.word.Word.TheVariants.{SetPriv, SetGlob, SetElem}
 use Rattle.hx_code.specs.declared.word.Ask.TheVariants as ask
 use Rattle.hx_code.specs.Code.{CodeView}
-use Rattle.hx_code.specs.Call.{or_fault as or_asks, CallView, Want, Asks, wants, at_index, fault_at}
+use Rattle.hx_code.specs.Call.{or_fault as or_asks, Asks, wants, at_index, fault_at}
 use Rattle.hx_code.specs.Machine.{Machine}
 use Rattle.hx_lowering.specs.declared.line.Line.{Line}
 use Rattle.hx_lowering.specs.Lines.{Version, put, cell_of, set_at, set_private, array_of}
@@ -24,7 +20,7 @@ use Rattle.hx_lowering.proofs.Globals.{Layout, store_from, words_in, place_of, f
 use Rattle.hx_lowering.proofs.Follow.{Follows}
 use Rattle.hx_lowering.proofs.Values.{private_value, value_at}
 use Rattle.hx_lowering.proofs.Scene.{Scene, Fair, Holds}
-use Rattle.hx_lowering.proofs.Setting.{Ground, is_active, Memory, with_store}
+use Rattle.hx_lowering.proofs.Setting.{Ground}
 use Rattle.hx_lowering.proofs.Stand.{Has, word_stands, length-put}
 use Rattle.hx_lowering.proofs.At.{layout_of, call_at, world_at, At, at_place, roomy, goes_to, stores_to, faults_to}
 
@@ -79,6 +75,7 @@ module _ (p : Program) (code : CodeView) (words : code.globals ≡ words_in (lay
     where
       unlike : (j : ℕ) (q : ℤ) → s.kept j ≡ Some q → j ≡ k → ⊥
       unlike j q e same = let t : Some q ≡ None = sym e ∙ ap s.kept same ∙ free in absurd cc
+
       go : (o : Option ℕ) → cell_of s.version.carried k ≡ o → Has code (put s.version h (set_at o s.version.globals k) lines)
           → ((ps' cells' : List ℤ) (m' : Machine) → Changed s k z ps cells ps' cells' → At p code s.ground (length (put s.version h (set_at o s.version.globals k) lines)) ps' os cells' w m' → Follows code n m' a Done)
           → Follows code n m a Done
@@ -88,12 +85,12 @@ module _ (p : Program) (code : CodeView) (words : code.globals ≡ words_in (lay
           let room : k < length ps = omega (arith, long, lt) in
           goes_to p code s.ground n (length lines) (length lines + 1) ps ps' (z ∷ os) os cells w m (SetPriv k) a Done at (word_stands code s.version h (SetPriv k) lines has) refl
           (λ m' at'. go_on ps' cells m'
-            (record {
-              here = ap (λ o. private_value o ps' cells k) e ∙ get_or-set_same ps k z (pos 0) room;
-              others = λ j ne. other (cell_of s.version.carried j) j ne;
-              holds = record { long = length-set ps k z ∙ holds.long; keeps = λ j q e'. get_or-set_other ps k j z (pos 0) (unlike j q e') ∙ holds.keeps j q e'; freezes = holds.freezes };
-            })
-            (at_place p code s.ground (length lines + 1) _ ps' os cells w m' (sym (length-put s.version h (SetPriv k) lines)) at'))
+          (record {
+            here = ap (λ o. private_value o ps' cells k) e ∙ get_or-set_same ps k z (pos 0) room;
+            others = λ j ne. other (cell_of s.version.carried j) j ne;
+            holds = record { long = length-set ps k z ∙ holds.long; keeps = λ j q e'. get_or-set_other ps k j z (pos 0) (unlike j q e') ∙ holds.keeps j q e'; freezes = holds.freezes };
+          })
+          (at_place p code s.ground (length lines + 1) _ ps' os cells w m' (sym (length-put s.version h (SetPriv k) lines)) at'))
         where
           other : (o : Option ℕ) (j : ℕ) → (j ≡ k → ⊥) → private_value o ps cells j ≡ private_value o (slice_set ps k z) cells j
           other None j ne = sym (get_or-set_other ps k j z (pos 0) ne)
@@ -113,12 +110,12 @@ module _ (p : Program) (code : CodeView) (words : code.globals ≡ words_in (lay
           (omega (arith, length-set st (s.version.globals + c) z, room))
           (λ a'. ap (λ g. drop G (slice_set st (g + c) z)) fair.globals ∙ drop-set-add G st c z ∙ ap (λ l. slice_set l c z) cells_is)
           (λ m' at'. go_on ps cells' m'
-            (record {
-              here = ap (λ o. private_value o ps cells' k) e ∙ get_or-set_same cells c z (pos 0) many;
-              others = λ j ne. other (cell_of s.version.carried j) j refl ne;
-              holds = record { long = holds.long; keeps = holds.keeps; freezes = λ cs e'. (let t : Some c ≡ None = sym e ∙ fair.still cs e' k in absurd cc) };
-            })
-            (at_place p code s.ground (length lines + 1) _ ps os cells' w m' (sym (length-put s.version h (SetGlob (s.version.globals + c)) lines)) at'))
+          (record {
+            here = ap (λ o. private_value o ps cells' k) e ∙ get_or-set_same cells c z (pos 0) many;
+            others = λ j ne. other (cell_of s.version.carried j) j refl ne;
+            holds = record { long = holds.long; keeps = holds.keeps; freezes = λ cs e'. (let t : Some c ≡ None = sym e ∙ fair.still cs e' k in absurd cc) };
+          })
+          (at_place p code s.ground (length lines + 1) _ ps os cells' w m' (sym (length-put s.version h (SetGlob (s.version.globals + c)) lines)) at'))
         where
           other : (o : Option ℕ) → (j : ℕ) → cell_of s.version.carried j ≡ o → (j ≡ k → ⊥) → private_value o ps cells j ≡ private_value o ps (slice_set cells c z) j
           other None j e' ne = refl

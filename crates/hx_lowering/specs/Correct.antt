@@ -1,9 +1,10 @@
 -- What is promised of the code of a program.
-use Rattle.std.specs.Prelude.{◌≡◌, ℕ, ℤ, List, take, Some}
+use Rattle.std.specs.Prelude.{◌≡◌, ◌↔◌, ℕ, ℤ, List, take, Some}
 use Rattle.hx_tree.specs.declared.outcome.End.{End}
 use Rattle.hx_tree.specs.Tree.{Program}
 use Rattle.hx_tree.specs.Meaning.{Ending, Means, InputFits}
 use Rattle.hx_code.specs.Code.{CodeView}
+use Rattle.hx_code.specs.Machine as code
 use Rattle.hx_code.specs.Region.{held}
 use Rattle.hx_code.specs.Machine.{Machine, machine_after, opening_machine}
 
@@ -18,9 +19,10 @@ pub record Shows (code : CodeView) (m : Machine) (r : Ending) : Type 0 where
 abbrev pub run : CodeView → List ℤ → ℕ → Machine
 run code input n = machine_after code n (opening_machine code input)
 
--- the code does what the program means, and nothing else: where the program ends, the code ends so; and where the code has
--- ended, the program ends so
-pub record Behaves (p : Program) (code : CodeView) : Type 0 where
-  pub ends : (input : List ℤ) → InputFits p input → (r : Ending) → Means p input r → (n : ℕ) × Shows code (run code input n) r
-  pub ends_only : (input : List ℤ) → InputFits p input → (n : ℕ) (finish : End) → (run code input n).end ≡ Some finish
-      → (r : Ending) × Means p input r × Shows code (run code input n) r
+-- the code does what the program means, and nothing else: the same inputs fit; where the program ends, the code ends so; and
+-- where the code has ended, the program ends so
+pub record Behaves (p : Program) (view : CodeView) : Type 0 where
+  pub fits : (input : List ℤ) → InputFits p input ↔ code.InputFits view input
+  pub ends : (input : List ℤ) → InputFits p input → (r : Ending) → Means p input r → (n : ℕ) × Shows view (run view input n) r
+  pub ends_only : (input : List ℤ) → InputFits p input → (n : ℕ) (finish : End) → (run view input n).end ≡ Some finish
+      → (r : Ending) × Means p input r × Shows view (run view input n) r

@@ -1,5 +1,5 @@
 -- The words of statements, functions and whole programs, with their tables.
-use Rattle.std.specs.Prelude.{ℕ, ◌+◌, List, [], ◌∷◌, ◌++◌, length, map, pos, Option, Some, None, option_map}
+use Rattle.std.specs.Prelude.{ℕ, ◌+◌, List, [], ◌∷◌, ◌++◌, length, map, pos, Some, None, option_map}
 use Rattle.hx_check.specs.Resolved as resolved
 use Rattle.hx_check.specs.Resolved.{Clauses, LoopKind, Stmt, Stmts, Function, Program}
 use Rattle.hx_code.specs.declared.word.Word.{Word}
@@ -7,7 +7,7 @@ use Rattle.hx_code.specs.declared.word.Word.TheVariants.{Const, Drop, Jump, Jump
 use Rattle.hx_code.specs.declared.table.Carried.{Carried}
 use Rattle.hx_code.specs.Code.{FuncView, RegionView, CodeView}
 use Rattle.hx_lowering.specs.declared.line.Line.{Line}
-use Rattle.hx_lowering.specs.Size.{expr_size, test_size, step_size, turn_size, stmt_size}
+use Rattle.hx_lowering.specs.Size.{expr_size, test_size, turn_size, stmt_size}
 use Rattle.hx_lowering.specs.Lines.{Version, put, array_of, count, expr_lines, exprs_lines, simple_lines, simples_lines, test_lines, step_lines}
 
 -- what stands so far
