@@ -1,28 +1,23 @@
 -- From a run of lowered code to the headline.
-use Rattle.std.proofs.Common.{◌≡◌, ℕ, ◌≤◌, ◌^◌, ◌-◌, List, ℤ, Some, refl, sym, ap, subst, ◌∙◌, arith, length}
-use Rattle.std.specs.Prelude.{min}
+use Rattle.std.proofs.Common.{◌≡◌, ℕ, List, ℤ, Some, refl, sym, ap, subst, ◌∙◌}
 use Rattle.hx_tree.specs.declared.outcome.End.{End}
 use Rattle.hx_tree.specs.declared.outcome.Finish.{Finish}
 use Rattle.hx_tree.specs.Tree.{Program}
 use Rattle.hx_tree.specs.Meaning.{Ending, Means, shown_by}
 use Rattle.hx_tree.specs.Meaning as meaning
-use Rattle.hx_check.specs.Resolve.{resolve}
 use Rattle.hx_code.specs.Code.{CodeView}
 use Rattle.hx_code.specs.Machine as machine
-use Rattle.hx_code.specs.Region.{held}
-use Rattle.hx_lowering.specs.Draft.{code_of}
 use Rattle.hx_lowering.specs.Correct.{Behaves, Shows}
 use Rattle.std.specs.Prelude.{Result, Ok, Err, IfOk, OnOk}
 use Rattle.hx_tree.specs.Accepted.{IsAccepted}
 use Rattle.hx_run.specs.declared.running.PlainRan.{PlainRan}
 use Rattle.hx_run.specs.declared.running.PlainRan.TheVariants.{Ended, More}
-use Rattle.hx_run.specs.Sources.{IsSourceOf, IsSpelledAlone}
+use Rattle.hx_run.specs.Sources.{IsSpelledAlone}
 use Rattle.hx_run.specs.declared.refusal.Refusal.{Refusal}
 use Rattle.hx_run.specs.declared.refusal.Refusal.TheVariants as refusal
 use Rattle.hx_run.specs.Refusals.{RefusesSource}
 use Rattle.hx_run.specs.Runs.{EndsSo, PlainlySo, RefusesInput, after}
 use Rattle.hx_run.specs.Headline.{IsFinishOf, IsPlainRanOf, IsCodeOf, IsTooLong, RefusesRun}
-use Rattle.hx_run.proofs.Fits.{same_room}
 
 same_end : (a b : End) → Some a ≡ Some b → a ≡ b
 same_end a b e = search e
@@ -30,20 +25,14 @@ same_end a b e = search e
 ending_is : (a b : Ending) → a.text ≡ b.text → a.globals ≡ b.globals → a.finish ≡ b.finish → a.turns ≡ b.turns → a ≡ b
 ending_is a b t g f n = rw (t, g, f, n) refl
 
--- the code of an accepted program is its source's
-pub is_code : (source : List ℕ) (p : Program) → IsSourceOf source p → Behaves p (code_of (resolve p)) → IsCodeOf source (code_of (resolve p))
-is_code source p is_source behaves = record { program = p; is_source = is_source; room = same_room p is_source.accepted; behaves = behaves }
-
 -- what the stages make of a source is its code
-pub compiled : (source : List ℕ) (p : Program) (code : CodeView) → IsSpelledAlone source p → IsAccepted p → code ≡ code_of (resolve p) → Behaves p code → IsCodeOf source code
-compiled source p code alone accepted e behaves =
-    subst (λ c. IsCodeOf source c) (sym e)
-    (is_code source p (record { spells = alone.spells; accepted = accepted }) (subst (λ c. Behaves p c) e behaves))
+pub compiled : (source : List ℕ) (p : Program) (code : CodeView) → IsSpelledAlone source p → IsAccepted p → Behaves p code → IsCodeOf source code
+compiled source p code alone accepted behaves =
+    record { program = p; is_source = record { spells = alone.spells; accepted = accepted }; behaves = behaves }
 
 pub is_finish : (source : List ℕ) (input : List ℤ) (code : CodeView) (f : Finish) → IsCodeOf source code → machine.InputFits code input → EndsSo code input f → IsFinishOf source input f
 is_finish source input code f of fits_code (n, (ended, counts)) =
-    let room_is = of.room in
-    let fits : meaning.InputFits of.program input = omega (arith, fits_code, room_is) in
+    let fits : meaning.InputFits of.program input = (of.behaves.fits input).1 fits_code in
     let found = of.behaves.ends_only input fits n f.outcome.end ended.end in
     let shows : Shows code (after code input n) found.0 = found.2 in
     let end_is : found.0.finish ≡ f.outcome.end = same_end _ _ (sym shows.finish ∙ ended.end) in
@@ -64,9 +53,7 @@ plain_ran source input code steps (Ended f) of fits h = is_finish source input c
 plain_ran source input code steps More of fits h = (code, of, h)
 
 pub is_too_long : (source : List ℕ) (input : List ℤ) (code : CodeView) → IsCodeOf source code → (machine.InputFits code input → ⊥) → IsTooLong source input
-is_too_long source input code of unfit =
-    let room_is = of.room in
-    record { program = of.program; is_source = of.is_source; unfit = λ fits. unfit (omega (arith, fits, room_is)) }
+is_too_long source input code of unfit = record { program = of.program; is_source = of.is_source; unfit = λ fits. unfit ((of.behaves.fits input).0 fits) }
 
 -- a refusal of the machine is one of the run
 pub refuses_run : (source : List ℕ) (input : List ℤ) (code : CodeView) (e : Refusal) → IsCodeOf source code → RefusesInput code input e → RefusesRun source input e

@@ -1,4 +1,3 @@
 pub mod Sources
-pub mod Fits
 pub mod Runs
 pub mod Headline

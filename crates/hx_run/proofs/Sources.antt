@@ -1,5 +1,5 @@
 -- What the refusals of the lexer and the parser say of a source.
-use Rattle.std.proofs.Common.{◌≡◌, ℕ, ◌<◌, ◌≤◌, List, ap, subst, sym, arith, length}
+use Rattle.std.proofs.Common.{ℕ, ◌≤◌, List, subst, arith, length}
 use Rattle.hx_tree.specs.declared.limits.TheConstants.{SOURCE_LIMIT}
 use Rattle.hx_tree.specs.Tree.{Program}
 use Rattle.hx_tree.specs.Lexis.{Token, AreTokens}
@@ -16,7 +16,7 @@ use Rattle.hx_check.specs.declared.error.CheckError.TheVariants as check
 use Rattle.hx_check.specs.Refusals as checker
 use Rattle.hx_tree.specs.Accepted.{IsAccepted}
 use Rattle.hx_parse.specs.Answer as parser
-use Rattle.hx_run.specs.Sources.{IsSourceOf, IsSourceOfNone, IsSpelledAlone}
+use Rattle.hx_run.specs.Sources.{IsSourceOfNone, IsSpelledAlone}
 use Rattle.hx_run.specs.Refusals.{RefusesSource}
 
 without_tokens : (source : List ℕ) → HasNoTokens source → IsSourceOfNone source

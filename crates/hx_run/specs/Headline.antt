@@ -4,9 +4,8 @@ use Rattle.hx_tree.specs.declared.limits.TheConstants.{TABLE_LIMIT}
 use Rattle.hx_tree.specs.declared.outcome.Finish.{Finish}
 use Rattle.hx_tree.specs.declared.outcome.Settings.{Settings}
 use Rattle.hx_tree.specs.Tree.{Program}
-use Rattle.hx_tree.specs.Meaning.{Means, InputFits, room_for_input, shown_by}
+use Rattle.hx_tree.specs.Meaning.{Means, InputFits, shown_by}
 use Rattle.hx_code.specs.Code.{CodeView}
-use Rattle.hx_code.specs.Machine as machine
 use Rattle.hx_lowering.specs.Correct.{Behaves}
 use Rattle.hx_run.specs.declared.refusal.Refusal.{Refusal}
 use Rattle.hx_run.specs.declared.refusal.Refusal.TheVariants as refusal
@@ -30,7 +29,6 @@ pub record IsFinishOf (source : List ℕ) (input : List ℤ) (f : Finish) : Type
 pub record IsCodeOf (source : List ℕ) (code : CodeView) : Type 0 where
   pub program : Program
   pub is_source : IsSourceOf source program
-  pub room : machine.room_for_input code ≡ room_for_input program
   pub behaves : Behaves program code
 
 -- one or two workers, and tables of 1 to 4,096 words

@@ -1,5 +1,5 @@
 -- The numbers and places of refusals, and what those of a source mean.
-use Rattle.std.specs.Prelude.{◌≡◌, ℕ, ℤ, Bool, true, false, List, Option, Some, None}
+use Rattle.std.specs.Prelude.{ℕ, ℤ, Bool, true, false, List, Option, None}
 use Rattle.hx_tree.specs.declared.token.Pos.{Pos}
 use Rattle.hx_lex.specs.declared.error.LexError.TheVariants as lex
 use Rattle.hx_lex.specs.Answer as lexer
@@ -7,7 +7,6 @@ use Rattle.hx_parse.specs.declared.error.ParseError.TheVariants as parse
 use Rattle.hx_parse.specs.Answer as parser
 use Rattle.hx_check.specs.declared.error.CheckError.TheVariants as check
 use Rattle.hx_check.specs.Refusals as checker
-use Rattle.hx_lower.specs.declared.error.LowerError.{LowerError}
 use Rattle.hx_lower.specs.declared.error.LowerError.TheVariants as lower
 use Rattle.hx_word.specs.declared.plain.PlainError.{PlainError}
 use Rattle.hx_word.specs.declared.plain.PlainError.TheVariants as plain

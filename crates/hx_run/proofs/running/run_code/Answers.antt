@@ -1,6 +1,6 @@
-use Rattle.std.proofs.Common.{◌≡◌, ◌∙◌, ◌+◌, None, sym}
+use Rattle.std.proofs.Common.{◌≡◌, ◌+◌, None, sym}
 use Rattle.hx_code.specs.Code.{CodeView}
-use Rattle.hx_code.specs.Machine.{Machine, EndsWith, counts_of}
+use Rattle.hx_code.specs.Machine.{EndsWith, counts_of}
 use Rattle.hx_word.specs.Plain.{one_store}
 use Rattle.hx_run.proofs.Runs.{reached_first, next_words}
 use Rattle.hx_run.proofs.running.run_code.Goals as goal

@@ -1,7 +1,5 @@
-use Rattle.std.proofs.Common.{rules, ◌≡◌}
+use Rattle.std.proofs.Common.{rules}
 use Rattle.hx_tree.specs.View.{program_of}
-use Rattle.hx_check.specs.Resolve.{resolve}
-use Rattle.hx_lowering.specs.Draft.{code_of}
 use Rattle.hx_lowering.specs.Correct.{Behaves}
 use Rattle.hx_run.proofs.Sources.{checker_refuses}
 use Rattle.hx_run.proofs.Headline.{compiled}
@@ -14,6 +12,5 @@ returns-in_err-checked-clause-refused c =
 
 pub returns-clause-code : goal.returns-clause-code
 returns-clause-code c =
-    let code_is : c.in_ok-lower.field-0 ≡ code_of (resolve (program_of c.in_ok-program.program)) = search rules in
     let behaves : Behaves (program_of c.in_ok-program.program) c.in_ok-lower.field-0 = search rules in
-    compiled c.args.source.now (program_of c.in_ok-program.program) c.in_ok-lower.field-0 c.in_ok-program.ensures.spelled c.in_ok-checked.ensures.accepted code_is behaves
+    compiled c.args.source.now (program_of c.in_ok-program.program) c.in_ok-lower.field-0 c.in_ok-program.ensures.spelled c.in_ok-checked.ensures.accepted behaves
