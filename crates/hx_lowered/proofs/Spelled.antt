@@ -174,10 +174,18 @@ module _ (symbols : Map Symbol) where
 
   clauses_short : (h : tree.ForClauses) (scopes : Scopes) (k : ℕ) (from to : List Token) → AreForClauses h from to
       → simples_size (resolve_init h.init symbols scopes k) + test_size (option_map (λ e. resolve_expr e symbols (words_after_init h.init scopes k)) h.test)
-        + step_size (option_map (λ a. resolve_assignment a symbols (words_after_init h.init scopes k)) h.step) + 5 * length to + 19 ≤ 5 * length from
+      + step_size (option_map (λ a. resolve_assignment a symbols (words_after_init h.init scopes k)) h.step) + 5 * length to + 19 ≤ 5 * length from
   clauses_short h scopes k from to (a, g, (b, i, (c, j, (d, l, (e, m, (f, n, o)))))) =
-      omega (arith, the_takes mark.OpenParen from a g, init_short h.init scopes k a b i, the_takes mark.Semicolon b c j, test_short h.test (words_after_init h.init scopes k) c d l,
-        the_takes mark.Semicolon d e m, step_short h.step (words_after_init h.init scopes k) e f n, the_takes mark.CloseParen f to o)
+      omega (
+        arith,
+        the_takes mark.OpenParen from a g,
+        init_short h.init scopes k a b i,
+        the_takes mark.Semicolon b c j,
+        test_short h.test (words_after_init h.init scopes k) c d l,
+        the_takes mark.Semicolon d e m,
+        step_short h.step (words_after_init h.init scopes k) e f n,
+        the_takes mark.CloseParen f to o,
+      )
 
   -- ---- loops
 
@@ -232,10 +240,9 @@ module _ (symbols : Map Symbol) where
       stmt_short (tree.Return at e) scopes k from to (a, h, (b, i, j)) =
           let x = at_takes at mark.Return from a h in let y = return_short e scopes a b i in let z = the_takes mark.Semicolon b to j in (omega (arith, x, y, z), omega (arith, x, y, z))
 
-
       part_short : (p : tree.Part) (scopes : Scopes) (k : ℕ) (rest other : resolved.Stmts) (from to : List Token) → IsPart p from to
           → (stmts_size (resolve_part_then p (setting true) scopes k rest) + 5 * length to ≤ 5 * length from + stmts_size rest)
-            × (stmts_size (resolve_part_then p (setting false) scopes k other) + 10 * length to ≤ 10 * length from + stmts_size other)
+          × (stmts_size (resolve_part_then p (setting false) scopes k other) + 10 * length to ≤ 10 * length from + stmts_size other)
       part_short (tree.Locals ds) scopes k rest other from to (a, h, i) =
           let x = locals_short ds scopes k from a h in let y = the_takes mark.Semicolon a to i in
           (omega (arith, x, y, simples_then_size (resolve_locals ds symbols scopes k) rest), omega (arith, x, y, simples_then_size (resolve_locals ds symbols scopes k) other))
@@ -320,8 +327,18 @@ items_short symbols [] from to h = omega (arith, ap length h)
 items_short symbols (tree.Globals gs ∷ is) from to (a, (b, h, (c, i, j)), k) =
     omega (arith, the_takes mark.Int from b h, globals_take gs b c i, the_takes mark.Semicolon c a j, items_short symbols is a to k)
 items_short symbols (tree.Function f ∷ is) from to (a, (b, h, (c, i, (d, j, (e, k, (g, l, (m, n, (o, q, r))))))), s) =
-    omega (arith, the_takes _ from b h, named_takes f.name b c i, the_takes mark.OpenParen c d j, parameters_take f.params d e k, the_takes mark.CloseParen e g l,
-      the_takes mark.OpenBrace g m n, function_short symbols f m o q, the_takes mark.CloseBrace o a r, items_short symbols is a to s)
+    omega (
+      arith,
+      the_takes _ from b h,
+      named_takes f.name b c i,
+      the_takes mark.OpenParen c d j,
+      parameters_take f.params d e k,
+      the_takes mark.CloseParen e g l,
+      the_takes mark.OpenBrace g m n,
+      function_short symbols f m o q,
+      the_takes mark.CloseBrace o a r,
+      items_short symbols is a to s,
+    )
 
 -- ---- no more tokens than bytes
 
