@@ -144,7 +144,7 @@ room_first x (g ∷ gs) a d =
     go : sum_by (λ g. if bytes_eq g.name.text x then array_words g.shape else 0) gs ≡ code.array_words (option_map array_of (first_array x gs (a + shape_words g.shape)))
         → (b : Bool) → bytes_eq g.name.text x ≡ b
         → (if b then array_words g.shape else 0) + sum_by (λ g. if bytes_eq g.name.text x then array_words g.shape else 0) gs
-          ≡ code.array_words (option_map array_of (if b then told_array g.shape a else first_array x gs (a + shape_words g.shape)))
+        ≡ code.array_words (option_map array_of (if b then told_array g.shape a else first_array x gs (a + shape_words g.shape)))
     go more true e = at_it g.shape _ (none_counted x (λ g. array_words g.shape) gs (subst (λ y. is_among y (map gname gs) ≡ false) (same_text g.name.text x e) d.0))
     go more false e = omega (arith, more)
 
