@@ -1,4 +1,6 @@
 // Tests of whole runs.
 
+mod checking;
+mod listings;
 mod paths;
 mod rows;

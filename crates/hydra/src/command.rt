@@ -2,24 +2,15 @@
 
 ghost use Rattle.std.specs.Prelude.{◌≤◌};
 
+use crate::answer::{answer_check, answer_plain, answer_run, answer_words};
 use crate::files::{read_input, read_source};
 use crate::request::{Paths, Request, read_words};
-use crate::status::{
-    Status, show_finish, show_text, tell_command_line, tell_memory, tell_not_ended,
-    tell_read_failed, tell_refusal,
-};
-use hx_lower::listing;
-use hx_run::{PlainRan, compile, parse_input, run, run_plain};
-use hx_tree::outcome::Settings;
+use crate::status::{Status, tell_command_line, tell_read_failed, tell_refusal};
+use hx_run::parse_input;
 use std::convert::AsStr;
 use std::io::Write;
 use std::rt::Files;
 use std::sync::Wait;
-
-/// The words that an iteration may have read and written, in settings that no option names.
-const MARKS: u32 = 512;
-
-const BUFFER: u32 = 64;
 
 // The numbers of the input file, or none where none is named.
 fn input_of<R: Files + AllocGlobal, E: Write>(
@@ -55,22 +46,10 @@ fn run_file<R: Files + AllocGlobal + Wait, W: Write, E: Write>(
     workers: u32,
     out: &mut W,
     err: &mut E,
-) -> Result<Status, Status> {
-    let (input, source) = inputs_of(rt, paths, err)?;
-    let settings = Settings {
-        workers,
-        marks: MARKS,
-        buffer: BUFFER,
-    };
-    match run(
-        rt.alloc(),
-        rt,
-        source.as_slice(),
-        input.as_slice(),
-        settings,
-    ) {
-        Ok(finish) => Ok(show_finish(&finish, out, err)),
-        Err(refusal) => Err(tell_refusal(err, &refusal)),
+) -> Status {
+    match inputs_of(rt, paths, err) {
+        Ok((input, source)) => answer_run(rt.alloc(), rt, &source, &input, workers, out, err),
+        Err(status) => status,
     }
 }
 
@@ -80,12 +59,10 @@ fn plain_file<R: Files + AllocGlobal, W: Write, E: Write>(
     steps: u64,
     out: &mut W,
     err: &mut E,
-) -> Result<Status, Status> {
-    let (input, source) = inputs_of(rt, paths, err)?;
-    match run_plain(rt.alloc(), source.as_slice(), input.as_slice(), steps) {
-        Ok(PlainRan::Ended(finish)) => Ok(show_finish(&finish, out, err)),
-        Ok(PlainRan::More) => Err(tell_not_ended(err, steps)),
-        Err(refusal) => Err(tell_refusal(err, &refusal)),
+) -> Status {
+    match inputs_of(rt, paths, err) {
+        Ok((input, source)) => answer_plain(rt.alloc(), &source, &input, steps, out, err),
+        Err(status) => status,
     }
 }
 
@@ -95,12 +72,9 @@ fn check_file<R: Files + AllocGlobal, W: Write, E: Write>(
     out: &mut W,
     err: &mut E,
 ) -> Status {
-    let Ok(source) = read_source(rt, path) else {
-        return tell_read_failed(err);
-    };
-    match compile(rt.alloc(), source.as_slice()) {
-        Ok(_code) => show_text(b"ok\n", out, err),
-        Err(refusal) => tell_refusal(err, &refusal),
+    match read_source(rt, path) {
+        Ok(source) => answer_check(rt.alloc(), &source, out, err),
+        Err(_) => tell_read_failed(err),
     }
 }
 
@@ -110,24 +84,9 @@ fn list_file<R: Files + AllocGlobal, W: Write, E: Write>(
     out: &mut W,
     err: &mut E,
 ) -> Status {
-    let Ok(source) = read_source(rt, path) else {
-        return tell_read_failed(err);
-    };
-    let code = match compile(rt.alloc(), source.as_slice()) {
-        Ok(code) => code,
-        Err(refusal) => return tell_refusal(err, &refusal),
-    };
-    match listing(rt.alloc(), &code) {
-        Ok(text) => show_text(text.as_slice(), out, err),
-        Err(_) => tell_memory(err),
-    }
-}
-
-// The status of a command, whether it came to its end or stopped on the way.
-fn either(ended: Result<Status, Status>) -> Status {
-    match ended {
-        Ok(status) => status,
-        Err(status) => status,
+    match read_source(rt, path) {
+        Ok(source) => answer_words(rt.alloc(), &source, out, err),
+        Err(_) => tell_read_failed(err),
     }
 }
 
@@ -146,8 +105,8 @@ pub fn command<R: Files + AllocGlobal + Wait, S: AsStr, W: Write, E: Write>(
     ensures { result ≤ 4 }
 {
     let status = match read_words(rt.alloc(), words) {
-        Ok(Some(Request::Run(paths, workers))) => either(run_file(rt, &paths, workers, out, err)),
-        Ok(Some(Request::Plain(paths, steps))) => either(plain_file(rt, &paths, steps, out, err)),
+        Ok(Some(Request::Run(paths, workers))) => run_file(rt, &paths, workers, out, err),
+        Ok(Some(Request::Plain(paths, steps))) => plain_file(rt, &paths, steps, out, err),
         Ok(Some(Request::Check(path))) => check_file(rt, path, out, err),
         Ok(Some(Request::Words(path))) => list_file(rt, path, out, err),
         Ok(None) => Status::Refused,

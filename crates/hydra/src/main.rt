@@ -1,6 +1,7 @@
 //! The program `hydra`: a command line over files and streams.
 #![tactic(auto)]
 
+mod answer;
 mod command;
 mod files;
 mod request;

@@ -1,6 +1,9 @@
 // How a command ends, and what is told of it on the error stream.
 
-ghost use Rattle.std.specs.Prelude.{◌≤◌};
+ghost use Rattle.std.specs.Prelude.{◌≡◌, ◌≢◌};
+ghost use Rattle.hydra.specs.Answers.{ShowsFinish, ShowsText};
+ghost use Rattle.hydra.specs.Statuses.{exit_status, status_of_refusal};
+ghost use Rattle.hydra.specs.declared.status.Status.TheVariants as status;
 
 use clap::error::{Error, ErrorKind};
 use hx_run::Refusal;
@@ -25,7 +28,7 @@ pub enum Status {
 impl Status {
     /// The exit status: 0 to 4, in the order of the variants.
     pub fn code(self) -> u8
-        ensures { result ≤ 4 }
+        ensures { result ≡ exit_status self }
     {
         match self {
             Status::Done => 0,
@@ -43,31 +46,41 @@ fn tell<E: Write>(err: &mut E, line: &[u8]) {
 }
 
 /// A file that doesn't open or can't be read.
-pub fn tell_read_failed<E: Write>(err: &mut E) -> Status {
+pub fn tell_read_failed<E: Write>(err: &mut E) -> Status
+    ensures { result ≡ status.Device }
+{
     tell(err, b"hydra: read failed\n");
     Status::Device
 }
 
 /// An output that takes no more.
-pub fn tell_write_failed<E: Write>(err: &mut E) -> Status {
+pub fn tell_write_failed<E: Write>(err: &mut E) -> Status
+    ensures { result ≡ status.Device }
+{
     tell(err, b"hydra: write failed\n");
     Status::Device
 }
 
 /// Want of memory.
-pub fn tell_memory<E: Write>(err: &mut E) -> Status {
+pub fn tell_memory<E: Write>(err: &mut E) -> Status
+    ensures { result ≡ status.Memory }
+{
     tell(err, b"hydra: memory\n");
     Status::Memory
 }
 
 /// A run that isn't over.
-pub fn tell_not_ended<E: Write>(err: &mut E, steps: u64) -> Status {
+pub fn tell_not_ended<E: Write>(err: &mut E, steps: u64) -> Status
+    ensures { result ≡ status.Refused }
+{
     let _ = writeln!(err, "hydra: not ended after {steps} steps");
     Status::Refused
 }
 
 /// A refusal, with its number and, where it has one, its place.
-pub fn tell_refusal<E: Write>(err: &mut E, refusal: &Refusal) -> Status {
+pub fn tell_refusal<E: Write>(err: &mut E, refusal: &Refusal) -> Status
+    ensures { result ≡ status_of_refusal refusal.now }
+{
     if refusal.is_memory() {
         return tell_memory(err);
     }
@@ -80,7 +93,9 @@ pub fn tell_refusal<E: Write>(err: &mut E, refusal: &Refusal) -> Status {
 }
 
 /// Help goes to the output, and what is wrong with a command line to the error stream.
-pub fn tell_command_line<W: Write, E: Write>(error: &Error, out: &mut W, err: &mut E) -> Status {
+pub fn tell_command_line<W: Write, E: Write>(error: &Error, out: &mut W, err: &mut E) -> Status
+    ensures { result ≢ status.Fault }
+{
     if error.kind() == ErrorKind::OutOfMemory {
         return tell_memory(err);
     }
@@ -95,7 +110,9 @@ pub fn tell_command_line<W: Write, E: Write>(error: &Error, out: &mut W, err: &m
 }
 
 /// Text for the output.
-pub fn show_text<W: Write, E: Write>(text: &[u8], out: &mut W, err: &mut E) -> Status {
+pub fn show_text<W: Write, E: Write>(text: &[u8], out: &mut W, err: &mut E) -> Status
+    ensures { ShowsText text.now (W.contents out.old) (W.contents out.new) result }
+{
     if out.write_all(text).is_err() || out.flush().is_err() {
         return tell_write_failed(err);
     }
@@ -103,7 +120,9 @@ pub fn show_text<W: Write, E: Write>(text: &[u8], out: &mut W, err: &mut E) -> S
 }
 
 /// The printed text of a run, and its fault, if it ended by one.
-pub fn show_finish<W: Write, E: Write>(finish: &Finish, out: &mut W, err: &mut E) -> Status {
+pub fn show_finish<W: Write, E: Write>(finish: &Finish, out: &mut W, err: &mut E) -> Status
+    ensures { ShowsFinish finish.now (W.contents out.old) (W.contents out.new) result }
+{
     let shown = show_text(finish.outcome.text.as_slice(), out, err);
     if shown != Status::Done {
         return shown;
