@@ -3,6 +3,7 @@ pub mod Call
 pub mod Step
 pub mod Valid
 pub mod Local
+pub mod Store
 pub mod Fits
 pub mod Calls
 pub mod Region

@@ -1,14 +1,26 @@
 -- What is asked, by its name.
-use Rattle.std.proofs.Common.{◌≡◌, ◌≢◌, ℕ, sym, subst, ◌∙◌}
+use Rattle.std.proofs.Common.{◌≡◌, ◌≢◌, ◌<◌, ◌≤◌, ℕ, ℤ, List, arith, sym, subst, ◌∙◌}
 use Rattle.hx_code.specs.declared.word.Ask.{Ask}
 use Rattle.hx_code.specs.declared.word.Ask.TheVariants.{Goes}
 use Rattle.hx_code.specs.declared.word.Next.{Next}
 use Rattle.hx_code.specs.Code.{CodeView}
 use Rattle.hx_code.specs.Local.{LocalView}
-use Rattle.hx_code.specs.Fits.{LocalStretch}
+use Rattle.hx_code.specs.Fits.{LocalGoingOver, LocalStretchOver}
 
-pub asked_as : (code : CodeView) (k : ℕ) (l m : LocalView) (ask as_this : Ask) (next : Next) → (ask ≢ Goes → LocalStretch code k l ask next m) → ask ≡ as_this → as_this ≢ Goes → LocalStretch code k l as_this next m
-asked_as code k l m ask as_this next t is other = subst (λ a. LocalStretch code k l a next m) is (t (λ e. other (sym is ∙ e)))
+pub asked_as : (code : CodeView) (k : ℕ) (l : LocalView) (s s' : List ℤ) (m : LocalView) (t t' : List ℤ) (ask as_this : Ask) (next : Next)
+    → (ask ≢ Goes → LocalStretchOver code k l s ask next m t) → s ≡ s' → t ≡ t' → ask ≡ as_this → as_this ≢ Goes → LocalStretchOver code k l s' as_this next m t'
+asked_as code k l s s' m t t' ask as_this next w before after is other =
+    let one = subst (λ a. LocalStretchOver code k l s a next m t) is (w (λ e. other (sym is ∙ e))) in
+    let two = subst (λ x. LocalStretchOver code k l x as_this next m t) before one in
+    subst (λ x. LocalStretchOver code k l s' as_this next m x) after two
+
+pub went_as : (code : CodeView) (k : ℕ) (l : LocalView) (s s' : List ℤ) (m : LocalView) (t t' : List ℤ) → LocalGoingOver code k l s m t → s ≡ s' → t ≡ t' → LocalGoingOver code k l s' m t'
+went_as code k l s s' m t t' w before after =
+    subst (λ x. LocalGoingOver code k l s' m x) after (subst (λ x. LocalGoingOver code k l x m t) before w)
+
+-- a store lacks no word that it has
+pub lacks_none : (n a : ℕ) → n ≤ a → a < n → ⊥
+lacks_none n a le lt = omega arith
 
 pub isnt_goes : (ask as_this : Ask) → ask ≡ as_this → as_this ≢ Goes → ask ≢ Goes
 isnt_goes ask as_this is other = λ e. other (sym is ∙ e)

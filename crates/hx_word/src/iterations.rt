@@ -106,19 +106,10 @@ impl Iterations {
         code.known();
         let mut words = 0;
         while words < steps {
-            let done = self.local.stretch(code, steps - words);
+            let done = self.local.stretch_over(code, store, steps - words);
             words += done.words;
             match done.ask {
                 Ask::Goes => {}
-                Ask::Loads(a) => {
-                    self.local.load(code, done.next, store[a as usize]);
-                    words += 1;
-                }
-                Ask::Stores(a, v) => {
-                    self.local.go_on(done.next);
-                    store[a as usize] = v;
-                    words += 1;
-                }
                 Ask::Prints(output, at) => {
                     self.local.go_on(done.next);
                     words += 1;
@@ -148,6 +139,8 @@ impl Iterations {
                     self.local.go_on(done.next);
                     return ended(words + 1, Exit::Faulted(fault));
                 }
+                Ask::Loads(_) => unreachable!(),
+                Ask::Stores(_, _) => unreachable!(),
                 Ask::Calls(_, _) => unreachable!(),
                 Ask::Enters(_, _) => unreachable!(),
             }
