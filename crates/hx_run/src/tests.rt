@@ -1,4 +1,5 @@
 // Tests of whole runs.
 
+mod forms;
 mod paths;
 mod rows;
