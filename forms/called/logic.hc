@@ -1,0 +1,38 @@
+// `&&` and `||`, which skip their right sides, in a function that the turns of a `pfor` call.
+// Whole turns: 3.
+int g = 1;
+int a[8] = {3, 1, 4, 1, 5, 9, 2, 6};
+
+int told(int x) { print(x + 1000); return x; }
+
+int work(int k, int s) {
+  print(told(k) && told(1));
+  print(told(k) || told(2));
+  print(told(0) || told(k) && told(3));
+  print((told(k) || told(0)) && told(k - 1));
+  print(told(k) && told(0) || told(k - 2));
+  if (k == 1 && told(7)) s++;
+  if (k == 1 || told(8)) s += 2; else s -= 50;
+  if (!(k && s)) print(1);
+  while (told(k) && s < 14) s += 2;
+  int x = (k && 5) + (s || 0) * 2;
+  print(x);
+  print(3 && 2 && k);
+  print(0 || 0 || k);
+  a[k && 1] += k || told(9);
+  g += k && s;
+  g *= told(k) || x > 2 && !k;
+  return s;
+}
+
+int main() {
+  int s = 10;
+  pfor (int k = 0; k < 3; k++) {
+    s = work(k, s);
+    print(s);
+  }
+  print(s);
+  print(g);
+  for (int i = 0; i < 8; i++) print(a[i]);
+  return 0;
+}

@@ -1,0 +1,25 @@
+// `++` and `--`, in the turns of a `pfor`.
+// Whole turns: 3.
+int g = 1;
+int a[8] = {3, 1, 4, 1, 5, 9, 2, 6};
+
+int main() {
+  int s = 10;
+  pfor (int k = 0; k < 3; k++) {
+    int x = k;
+    x++; print(x);
+    x--; x--; print(x);
+    s++; s++; print(s);
+    s--; print(s);
+    g--; g--; g--; print(g);
+    g++; print(g);
+    a[k]++; a[k]++; print(a[k]);
+    a[(a[k] + k) & 7]--;
+    for (x = 4; x > k; x--) s++;
+    print(x);
+  }
+  print(s);
+  print(g);
+  for (int i = 0; i < 8; i++) print(a[i]);
+  return 0;
+}

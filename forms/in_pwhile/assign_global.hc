@@ -1,0 +1,29 @@
+// Each assignment, to a global, in the turns of a `pwhile`.
+// Whole turns: 3.
+int g = 1;
+int a[8] = {3, 1, 4, 1, 5, 9, 2, 6};
+
+int main() {
+  int k = 0, s = 10;
+  pwhile (k < 3) {
+    g = g + k + 100; print(g);
+    g += 7 + k; print(g);
+    g -= 3 * k; print(g);
+    g *= 5; print(g);
+    g /= 2; print(g);
+    g %= 97; print(g);
+    g <<= k + 1; print(g);
+    g >>= 1; print(g);
+    g &= 117; print(g);
+    g ^= 9 + k; print(g);
+    g |= 64; print(g);
+    g = -g; print(g);
+    g = k - g; print(g);
+    g += g; print(g);
+    k++;
+  }
+  print(s);
+  print(g);
+  print(k);
+  return 0;
+}

@@ -1,0 +1,29 @@
+// Declarations of locals, outside any region.
+// Whole turns: 0.
+int g = 1;
+int a[8] = {3, 1, 4, 1, 5, 9, 2, 6};
+
+int main() {
+  int k = 2, s = 10;
+  int x = k + 1, y = x * 10, z;
+  z = y + x;
+  {
+    int x = z + 1, u;
+    u = x + y;
+    x += u;
+    print(x);
+    s += x;
+  }
+  int w = s - x;
+  print(w);
+  for (int x = w, n = 0; n < 2; n++) {
+    int y = x + n;
+    x += y;
+    print(x);
+  }
+  print(x + y + z);
+  print(s);
+  print(g);
+  print(k);
+  return 0;
+}
