@@ -10,7 +10,7 @@ use std::alloc::{AllocError, Global};
 
 /// Which code.
 #[derive(Clone, Copy, PartialEq, Eq, Debug)]
-pub enum Sketch {
+pub(crate) enum Sketch {
     /// A sum in private words.
     Locals,
     /// Two loops, one in the other, over an array.
@@ -22,7 +22,7 @@ pub enum Sketch {
 }
 
 /// The code of a name.
-pub fn sketch_named(name: &str) -> Option<Sketch> {
+pub(crate) fn sketch_named(name: &str) -> Option<Sketch> {
     match name {
         "locals" => Some(Sketch::Locals),
         "arrays" => Some(Sketch::Arrays),
@@ -159,7 +159,7 @@ fn put(
 }
 
 /// The code, or none where the validator refuses it, which it doesn't.
-pub fn code_of(alloc: Global, sketch: Sketch) -> Result<Option<Code>, AllocError> {
+pub(crate) fn code_of(alloc: Global, sketch: Sketch) -> Result<Option<Code>, AllocError> {
     let mut words = Vec::new(alloc);
     let mut spots = Vec::new(alloc);
     let mut functions = Vec::new(alloc);
