@@ -3,9 +3,7 @@
 ghost use Rattle.std.specs.Prelude.{◌≡◌, ◌≢◌};
 ghost use Rattle.hydra.specs.Answers.{RunAnswer, PlainAnswer, CheckAnswer, WordsAnswer};
 
-use crate::status::{
-    Status, show_finish, show_text, tell_memory, tell_not_ended, tell_refusal,
-};
+use crate::status::{Status, show_finish, show_text, tell_memory, tell_not_ended, tell_refusal};
 use hx_lower::listing;
 use hx_run::{PlainRan, compile, run, run_plain};
 use hx_tree::outcome::Settings;
