@@ -1,6 +1,6 @@
 #!/usr/bin/env bash
-# Runs whole programs by `hydra plain`, by Lua 5.4 and by `gcc -O0`, where these are installed, and prints the times of one
-# run in milliseconds and how many times Lua's time ours is. All three must print the same.
+# Runs whole programs by `hydra plain`, by Lua 5.4 and by `gcc -O0`, where these are installed, and prints their processor
+# times in milliseconds and how many times Lua's time ours is. All three must print the same.
 #
 #   bench/whole_programs.sh [ROUNDS]      the best of so many runs, 3 if none is named
 #
@@ -13,14 +13,12 @@ hydra=../crates/hydra/out/hydra
 work=$(mktemp -d)
 trap 'rm -rf "$work"' EXIT
 
-# the least time of some runs, in milliseconds
+# the least processor time of some runs, in milliseconds: what else the machine does tells on it less than on the clock
 best_of() {
-  local best= begin end took
+  local best= took TIMEFORMAT=%U
   for _ in $(seq "$rounds"); do
-    begin=$(date +%s%N)
-    "$@" > "$work/printed"
-    end=$(date +%s%N)
-    took=$(( (end - begin) / 1000 ))
+    took=$( { time "$@" > "$work/printed"; } 2>&1 )
+    took=$(awk "BEGIN { print $took * 1000 }")
     if [ -z "$best" ] || [ "$took" -lt "$best" ]; then best=$took; fi
   done
   echo "$best"
@@ -46,6 +44,6 @@ for source in programs/*.hc; do
     cmp -s "$work/printed" "$work/$name.out" || { echo "$name: the C program prints something else" >&2; exit 1; }
   fi
   awk -v n="$name" -v a="$ours" -v b="$lua" -v c="$c" -v r="$ratio" 'BEGIN {
-    printf "%-12s %10.1f %10s %10s %10s\n", n, a / 1000, (b == "-" ? b : sprintf("%.1f", b / 1000)), (c == "-" ? c : sprintf("%.1f", c / 1000)), r }'
+    printf "%-12s %10s %10s %10s %10s\n", n, a, b, c, r }'
 done
 [ -z "$ratios" ] || echo $ratios | awk '{ p = 1; for (i = 1; i <= NF; i++) p *= $i; printf "geometric mean of our time over that of Lua: %.2f\n", p ^ (1 / NF) }'
