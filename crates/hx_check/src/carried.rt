@@ -325,7 +325,7 @@ fn copied_words(
 }
 
 /// The region of a marked loop, in a function with so many private words.
-pub fn region_of(
+pub(crate) fn region_of(
     alloc: Global,
     privates: u32,
     c: &Clauses,

@@ -18,7 +18,7 @@ use indexmap::IndexMap;
 use std::alloc::{AllocError, Global};
 
 /// The parameters of a function.
-pub fn param_names(params: &Params) -> &[Name]
+pub(crate) fn param_names(params: &Params) -> &[Name]
     ensures { map name_of result.now ≡ param_names (params_of params.now) }
 {
     match params {
@@ -89,7 +89,7 @@ fn insert(
 
 impl Symbols {
     /// What a name stands for, where it is declared.
-    pub fn look_up(&self, text: &[u8]) -> Option<Symbol>
+    pub(crate) fn look_up(&self, text: &[u8]) -> Option<Symbol>
         ensures { result ≡ look_up (symbols_in self.now) text.now }
     {
         self.table.get(text).copied()
@@ -151,7 +151,7 @@ impl Symbols {
     }
 
     /// Declares all names of a program, in source order.
-    pub fn of_items(alloc: Global, items: &[Item]) -> Result<Symbols, CheckError>
+    pub(crate) fn of_items(alloc: Global, items: &[Item]) -> Result<Symbols, CheckError>
         ensures { IsReading (declare_items (map item_of items.now) nothing_declared) declared_of result }
     {
         let mut symbols = Symbols {
@@ -169,7 +169,7 @@ impl Symbols {
     }
 
     /// The number of the function `int main()`.
-    pub fn main(&self) -> Result<u32, CheckError>
+    pub(crate) fn main(&self) -> Result<u32, CheckError>
         ensures { IsReading (check_main (symbols_in self.now)) same result }
     {
         match self.look_up(b"main") {

@@ -23,7 +23,7 @@ const NO_PLACE: Pos = Pos { line: 0, col: 0 };
 
 /// An expression whose value is wanted.
 #[cycle(expressions)]
-pub fn expression(
+pub(crate) fn expression(
     alloc: Global,
     e: &tree::Expr,
     symbols: &Symbols,
@@ -65,7 +65,7 @@ pub fn expression(
 
 /// The arguments of a call, from left to right.
 #[cycle(expressions)]
-pub fn arguments(
+pub(crate) fn arguments(
     alloc: Global,
     es: &[tree::Expr],
     symbols: &Symbols,
@@ -99,7 +99,7 @@ fn place(
 }
 
 /// An assignment; `p++` and `p--` are updates by 1.
-pub fn assignment(
+pub(crate) fn assignment(
     alloc: Global,
     a: &tree::Assignment,
     symbols: &Symbols,
@@ -130,7 +130,7 @@ pub fn assignment(
 }
 
 /// A value that may be absent: then it is 0.
-pub fn value_or_zero(
+pub(crate) fn value_or_zero(
     alloc: Global,
     e: &Option<tree::Expr>,
     symbols: &Symbols,
@@ -145,7 +145,7 @@ pub fn value_or_zero(
 }
 
 /// The test of a loop, which may be absent.
-pub fn test(
+pub(crate) fn test(
     alloc: Global,
     e: &Option<tree::Expr>,
     symbols: &Symbols,
@@ -160,7 +160,7 @@ pub fn test(
 }
 
 /// The step of a loop, which may be absent.
-pub fn step(
+pub(crate) fn step(
     alloc: Global,
     a: &Option<tree::Assignment>,
     symbols: &Symbols,

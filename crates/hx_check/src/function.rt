@@ -97,7 +97,7 @@ fn function(alloc: Global, f: &Func, symbols: &Symbols) -> Result<Function, Chec
 }
 
 /// The functions of a program, in source order.
-pub fn functions(
+pub(crate) fn functions(
     alloc: Global,
     items: &[Item],
     symbols: &Symbols,

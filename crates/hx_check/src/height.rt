@@ -186,7 +186,7 @@ fn items_fit(items: &[Item], room: u32) -> bool
 }
 
 /// Whether the tree of a program is no higher than this.
-pub fn program_fits(program: &Program, room: u32) -> bool
+pub(crate) fn program_fits(program: &Program, room: u32) -> bool
     ensures { IsTrue result ↔ spec.program_height (program_of program.now) ≤ room }
 {
     room > 0 && items_fit(&program.items, room - 1)

@@ -20,7 +20,7 @@ pub struct Here {
 
 impl Here {
     /// Where the body of a loop stands.
-    pub fn inside(self, marked: bool) -> Here
+    pub(crate) fn inside(self, marked: bool) -> Here
         ensures { result ≡ inside marked self }
     {
         Here {
@@ -32,7 +32,7 @@ impl Here {
     }
 
     /// Refuses a `break` or a `continue` outside a loop.
-    pub fn check_loop(self, pos: Pos) -> Result<(), CheckError>
+    pub(crate) fn check_loop(self, pos: Pos) -> Result<(), CheckError>
         ensures { result ≡ unless self.in_loop (OutsideLoop pos) }
     {
         if self.in_loop {

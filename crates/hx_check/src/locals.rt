@@ -50,7 +50,7 @@ fn look_up(scope: &Scope, text: &[u8]) -> Option<u32>
 }
 
 /// The private word of a local, where it is known.
-pub fn private_word(scopes: &Scopes, text: &[u8]) -> Option<u32>
+pub(crate) fn private_word(scopes: &Scopes, text: &[u8]) -> Option<u32>
     ensures { result ≡ private_word (scopes_of scopes.now) text.now }
 {
     match scopes {
@@ -87,7 +87,7 @@ fn add_local(scopes: &mut Scopes, alloc: Global, text: &[u8], word: u32) -> Resu
 
 impl Locals {
     /// Refuses a name that the innermost scope has already.
-    pub fn check_new(&self, x: &Name) -> Result<(), CheckError>
+    pub(crate) fn check_new(&self, x: &Name) -> Result<(), CheckError>
         ensures { result ≡ check_new (name_of x.now) (known_of self.now) }
     {
         if is_in_scope(&self.scopes, x.text.as_slice()) {
@@ -97,7 +97,7 @@ impl Locals {
     }
 
     /// Makes a name known in the innermost scope, and gives it the next private word.
-    pub fn declare(&mut self, alloc: Global, x: &Name) -> Result<u32, CheckError>
+    pub(crate) fn declare(&mut self, alloc: Global, x: &Name) -> Result<u32, CheckError>
         ensures { IsReadingNow (declare (name_of x.now) (known_of self.old)) same (known_of self.new) result }
     {
         let word = self.next;
@@ -110,7 +110,7 @@ impl Locals {
     }
 
     /// Opens a scope.
-    pub fn open(&mut self, alloc: Global) -> Result<(), AllocError>
+    pub(crate) fn open(&mut self, alloc: Global) -> Result<(), AllocError>
         ensures { OnOk result (known_of self.new ≡ in_scope (known_of self.old)) }
     {
         let outer = mem::replace(&mut self.scopes, Scopes::Outside);
@@ -119,7 +119,7 @@ impl Locals {
     }
 
     /// Closes the innermost scope.
-    pub fn close(&mut self)
+    pub(crate) fn close(&mut self)
         ensures { known_of self.new ≡ out_of_scope (known_of self.old) }
     {
         match mem::replace(&mut self.scopes, Scopes::Outside) {

@@ -8,14 +8,14 @@ use crate::resolved::{Expr, Stmt};
 use hx_tree::token::Pos;
 
 /// A call of a function with these arguments.
-pub fn call(function: u32, pos: Pos, arguments: Vec<Expr>) -> Expr
+pub(crate) fn call(function: u32, pos: Pos, arguments: Vec<Expr>) -> Expr
     ensures { resolved_expr result ≡ resolved.Call function pos (resolved.exprs (map resolved_expr arguments.items)) }
 {
     Expr::Call(function, pos, arguments)
 }
 
 /// A block of these statements.
-pub fn block(statements: Vec<Stmt>) -> Stmt
+pub(crate) fn block(statements: Vec<Stmt>) -> Stmt
     ensures { resolved_stmt result ≡ resolved.Block (resolved.stmts (map resolved_stmt statements.items)) }
 {
     Stmt::Block(statements)

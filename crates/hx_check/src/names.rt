@@ -21,7 +21,7 @@ pub enum Variable {
 
 impl Variable {
     /// The variable, read.
-    pub fn read(self) -> Expr
+    pub(crate) fn read(self) -> Expr
         ensures { resolved_expr result ≡ read self }
     {
         match self {
@@ -31,7 +31,7 @@ impl Variable {
     }
 
     /// The variable, assigned to.
-    pub fn write(self) -> Place
+    pub(crate) fn write(self) -> Place
         ensures { resolved_place result ≡ write self }
     {
         match self {
@@ -42,7 +42,11 @@ impl Variable {
 }
 
 /// The int of this name: 20 where the name isn't known, 22 where it is no int.
-pub fn int_named(symbols: &Symbols, scopes: &Scopes, x: &Name) -> Result<Variable, CheckError>
+pub(crate) fn int_named(
+    symbols: &Symbols,
+    scopes: &Scopes,
+    x: &Name,
+) -> Result<Variable, CheckError>
     ensures { result ≡ check_variable (name_of x.now) (symbols_in symbols.now) (scopes_of scopes.now) }
 {
     if let Some(word) = private_word(scopes, x.text.as_slice()) {
@@ -56,7 +60,7 @@ pub fn int_named(symbols: &Symbols, scopes: &Scopes, x: &Name) -> Result<Variabl
 }
 
 /// The array of this name: 20 where the name isn't known, 22 where it is no array.
-pub fn array_named(symbols: &Symbols, scopes: &Scopes, x: &Name) -> Result<Words, CheckError>
+pub(crate) fn array_named(symbols: &Symbols, scopes: &Scopes, x: &Name) -> Result<Words, CheckError>
     ensures { result ≡ check_array (name_of x.now) (symbols_in symbols.now) (scopes_of scopes.now) }
 {
     if private_word(scopes, x.text.as_slice()).is_some() {
@@ -82,7 +86,7 @@ fn gives_value(is_value: bool, returns: Returns) -> bool
 /// The number of the function of this name, called with so many arguments: 20 where the name isn't
 /// known, 22 where it is no function, or a void one whose value is wanted, 23 where the number of
 /// arguments is wrong.
-pub fn function_named(
+pub(crate) fn function_named(
     symbols: &Symbols,
     scopes: &Scopes,
     is_value: bool,

@@ -171,7 +171,7 @@ fn parts_need(ps: &[Part]) -> usize
 }
 
 /// The operand need of a function: 26 where it passes the limit.
-pub fn function_need(f: &Func) -> Result<u32, CheckError>
+pub(crate) fn function_need(f: &Func) -> Result<u32, CheckError>
     ensures { result ≡ limited (spec.function_need (func_of f.now)) OPERAND_LIMIT (CheckError.LimitPassed f.now.name.pos) }
 {
     let need = parts_need(&f.body).max(1);

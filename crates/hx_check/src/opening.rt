@@ -63,7 +63,7 @@ fn add_globals(globals: &[GlobalDecl], out: &mut Vec<i32>) -> Result<(), AllocEr
 }
 
 /// The store words of all globals, in source order.
-pub fn opening(alloc: Global, items: &[Item]) -> Result<Vec<i32>, AllocError>
+pub(crate) fn opening(alloc: Global, items: &[Item]) -> Result<Vec<i32>, AllocError>
     requires { All GlobalsFit items.now }
     ensures { IfOk result (λ v. v.items ≡ flat_map (λ g. opening_words g.shape) (flat_map item_globals (map item_of items.now))) }
 {

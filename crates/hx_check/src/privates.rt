@@ -61,7 +61,7 @@ fn parts_locals(ps: &[Part]) -> usize
 }
 
 /// The private words of a function: 26 where they pass the limit.
-pub fn private_words(f: &Func) -> Result<u32, CheckError>
+pub(crate) fn private_words(f: &Func) -> Result<u32, CheckError>
     ensures { result ≡ limited (spec.private_words (func_of f.now)) PRIVATE_LIMIT (CheckError.LimitPassed f.now.name.pos) }
 {
     let all = param_names(&f.params).len().min(MANY) + parts_locals(&f.body);

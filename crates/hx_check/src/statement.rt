@@ -218,7 +218,7 @@ fn part(
 
 /// The statements of a block, whose declarations stay known.
 #[cycle(statements)]
-pub fn statements(
+pub(crate) fn statements(
     alloc: Global,
     ps: &[tree::Part],
     symbols: &Symbols,

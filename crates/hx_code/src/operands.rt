@@ -5,7 +5,7 @@ ghost use Rattle.hx_code.specs.Step.{tops};
 
 /// The topmost operand.
 #[inline(always)]
-pub fn top(operands: &[i32; 256], height: usize) -> i32
+pub(crate) fn top(operands: &[i32; 256], height: usize) -> i32
     requires some { 0 < height }
     requires fits { height ≤ 256 }
     ensures { tops operands.now height ≡ result ∷ tops operands.now (height - 1) }
@@ -15,7 +15,7 @@ pub fn top(operands: &[i32; 256], height: usize) -> i32
 
 /// Puts an operand on top.
 #[inline(always)]
-pub fn put(operands: &mut [i32; 256], height: usize, value: i32)
+pub(crate) fn put(operands: &mut [i32; 256], height: usize, value: i32)
     requires { height < 256 }
     ensures { tops operands.new (height + 1) ≡ value ∷ tops operands.old height }
 {

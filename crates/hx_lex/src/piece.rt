@@ -35,7 +35,7 @@ impl Piece {
 }
 
 /// What stands at the front of the bytes, which begin at this place.
-pub fn piece_at(bytes: &[u8], pos: Pos) -> Result<Piece, LexError>
+pub(crate) fn piece_at(bytes: &[u8], pos: Pos) -> Result<Piece, LexError>
     requires { 0 < length bytes.now }
     ensures reading { result ≡ reading.piece_at pos bytes.now }
     ensures some { IfOk result (λ piece. 0 < piece.len) }

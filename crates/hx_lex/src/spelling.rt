@@ -69,7 +69,7 @@ const PUNCTUATORS: [(&[u8], Mark); 41] = [
 
 /// The keyword that a word is, where it is one.
 #[tactic(auto, unfolding(hx_tree::specs::Lexis::keyword_of))]
-pub fn keyword_of(text: &[u8]) -> Option<Mark>
+pub(crate) fn keyword_of(text: &[u8]) -> Option<Mark>
     ensures { result ≡ lexis.keyword_of text.now }
 {
     keyword_in(&KEYWORDS, text)
@@ -88,7 +88,7 @@ fn keyword_in(table: &[(&[u8], Mark)], text: &[u8]) -> Option<Mark>
 
 /// The longest punctuator that the bytes begin with, and its length.
 #[tactic(auto, unfolding(hx_tree::specs::Lexis::punctuator_at))]
-pub fn punctuator_at(bytes: &[u8]) -> Option<(Mark, usize)>
+pub(crate) fn punctuator_at(bytes: &[u8]) -> Option<(Mark, usize)>
     ensures { result ≡ option_map (λ entry. (entry.1, length entry.0)) (lexis.punctuator_at bytes.now) }
 {
     punctuator_in(&PUNCTUATORS, bytes)

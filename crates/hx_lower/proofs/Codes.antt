@@ -1,5 +1,5 @@
 -- Code of the parts of a draft.
-use Rattle.std.proofs.Common.{true, ◌<◌, ◌^◌, ◌∙◌, ap, sym, subst, ◌≡◌, ℕ, List, Option, length, map, option_map}
+use Rattle.std.proofs.Common.{◌<◌, ◌^◌, ◌∙◌, ap, sym, subst, ◌≡◌, ℕ, List, Option, length, map, option_map}
 use Rattle.std.specs.Prelude.{ℤ}
 use Rattle.hx_check.specs.declared.resolved.Words.{Words}
 use Rattle.hx_code.specs.Code.{CodeView}

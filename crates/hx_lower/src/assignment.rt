@@ -12,7 +12,7 @@ use hx_code::word::Word;
 use std::alloc::AllocError;
 
 /// Puts the words of an assignment.
-pub fn put_assignment(
+pub(crate) fn put_assignment(
     draft: &mut Drafted,
     a: &Assignment,
     version: &Version<'_>,
@@ -58,7 +58,11 @@ pub fn put_assignment(
 }
 
 /// Puts the words of a declared local or an assignment.
-pub fn put_simple(draft: &mut Drafted, s: &Simple, version: &Version<'_>) -> Result<(), AllocError>
+pub(crate) fn put_simple(
+    draft: &mut Drafted,
+    s: &Simple,
+    version: &Version<'_>,
+) -> Result<(), AllocError>
     ensures { OnOk result (draft.new ≡ with_lines draft.old (lines.simple_lines (resolved_simple s.now) version.now draft.old.lines)) }
 {
     match s {
@@ -71,7 +75,7 @@ pub fn put_simple(draft: &mut Drafted, s: &Simple, version: &Version<'_>) -> Res
 }
 
 /// Puts the words of what stands before a loop.
-pub fn put_simples(
+pub(crate) fn put_simples(
     draft: &mut Drafted,
     ss: &[Simple],
     version: &Version<'_>,
@@ -85,7 +89,7 @@ pub fn put_simples(
 }
 
 /// Puts the words of a test, which jumps to a place where it fails; an absent test has none.
-pub fn put_test(
+pub(crate) fn put_test(
     draft: &mut Drafted,
     test: &Option<Expr>,
     exit: u32,
@@ -103,7 +107,7 @@ pub fn put_test(
 }
 
 /// Puts the words of a step; an absent one has none.
-pub fn put_step(
+pub(crate) fn put_step(
     draft: &mut Drafted,
     step: &Option<Assignment>,
     version: &Version<'_>,

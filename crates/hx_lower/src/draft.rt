@@ -1,6 +1,6 @@
 // The words of a program so far, and which version of a function's words is written.
 
-ghost use Rattle.std.specs.Prelude.{◌≡◌, ◌+◌, ◌<◌, ◌≤◌, ◌^◌, IfOk, OnOk, Some, [], ◌∷◌, ◌++◌, length, map};
+ghost use Rattle.std.specs.Prelude.{◌≡◌, ◌+◌, ◌<◌, ◌≤◌, ◌^◌, IfOk, OkIff, OnOk, Some, [], ◌∷◌, ◌++◌, length, map};
 ghost use Rattle.hx_lowering.specs.Draft.{with_lines, plain_version, cells_from};
 ghost use Rattle.hx_lowering.specs.Lines as lines;
 
@@ -29,7 +29,7 @@ impl<'r> Model for Version<'r> {
 
 impl<'r> Version<'r> {
     /// The version of a function that runs outside its regions.
-    pub fn plain(function: u32, globals: u32) -> Version<'r>
+    pub(crate) fn plain(function: u32, globals: u32) -> Version<'r>
         ensures { result ≡ plain_version function globals }
     {
         Version {
@@ -41,7 +41,7 @@ impl<'r> Version<'r> {
     }
 
     /// The version of a region with these cells.
-    pub fn of_region<'c>(&self, region: u32, carried: &'c [Carried]) -> Version<'c>
+    pub(crate) fn of_region<'c>(&self, region: u32, carried: &'c [Carried]) -> Version<'c>
         ensures { result ≡ record { function = self.now.function; globals = self.now.globals; region = Some region; carried = carried.now } }
     {
         Version {
@@ -53,7 +53,7 @@ impl<'r> Version<'r> {
     }
 
     /// The word that reads a private word in this version.
-    pub fn get_private(&self, private: u32) -> Result<Word, AllocError>
+    pub(crate) fn get_private(&self, private: u32) -> Result<Word, AllocError>
         ensures { IfOk result (λ w. w ≡ lines.get_private self.now private) }
     {
         match cell_of(self.carried, private) {
@@ -66,7 +66,7 @@ impl<'r> Version<'r> {
     }
 
     /// The word that writes a private word in this version.
-    pub fn set_private(&self, private: u32) -> Result<Word, AllocError>
+    pub(crate) fn set_private(&self, private: u32) -> Result<Word, AllocError>
         ensures { IfOk result (λ w. w ≡ lines.set_private self.now private) }
     {
         match cell_of(self.carried, private) {
@@ -102,7 +102,7 @@ impl Drafted {
     ghost use Rattle.hx_lowering.specs.Draft.{no_draft};
 
     /// No words.
-    pub fn new(alloc: Global) -> Drafted
+    pub(crate) fn new(alloc: Global) -> Drafted
         ensures { result ≡ no_draft }
     {
         Drafted {
@@ -113,14 +113,14 @@ impl Drafted {
     }
 
     /// How many words there are: the place of the next.
-    pub fn place(&self) -> u32
+    pub(crate) fn place(&self) -> u32
         ensures place { result ≡ length self.now.lines }
     {
         self.lines.len() as u32
     }
 
     /// One operand more than so many, of which there are fewer than words.
-    pub fn above(&self, height: u32) -> u32
+    pub(crate) fn above(&self, height: u32) -> u32
         requires { height < length self.now.lines }
         ensures { result ≡ height + 1 }
     {
@@ -129,7 +129,12 @@ impl Drafted {
     }
 
     /// Puts a word behind the others, where a call holds so many operands.
-    pub fn put(&mut self, version: &Version<'_>, height: u32, word: Word) -> Result<(), AllocError>
+    pub(crate) fn put(
+        &mut self,
+        version: &Version<'_>,
+        height: u32,
+        word: Word,
+    ) -> Result<(), AllocError>
         ensures word { OnOk result (self.new ≡ with_lines self.old (lines.put version.now height word self.old.lines)) }
         ensures longer { OnOk result (length self.new.lines ≡ length self.old.lines + 1) }
     {
@@ -146,21 +151,21 @@ impl Drafted {
     }
 
     /// How many regions there are: the number of the next.
-    pub fn region_count(&self) -> Result<u32, AllocError>
+    pub(crate) fn region_count(&self) -> Result<u32, AllocError>
         ensures { IfOk result (λ n. n ≡ length self.now.regions) }
     {
         numbered(self.regions.len())
     }
 
     /// How many functions there are: the number of the next.
-    pub fn function_count(&self) -> Result<u32, AllocError>
+    pub(crate) fn function_count(&self) -> Result<u32, AllocError>
         ensures { IfOk result (λ n. n ≡ length self.now.functions) }
     {
         numbered(self.functions.len())
     }
 
     /// Puts a region behind the others.
-    pub fn put_region(&mut self, region: Region) -> Result<(), AllocError>
+    pub(crate) fn put_region(&mut self, region: Region) -> Result<(), AllocError>
         ensures { OnOk result (self.new ≡ record self.old { regions = self.old.regions ++ region ∷ [] }) }
     {
         self.regions.push(region)?;
@@ -168,7 +173,7 @@ impl Drafted {
     }
 
     /// The words alone.
-    pub fn words(&self, alloc: Global) -> Result<Vec<Word>, AllocError>
+    pub(crate) fn words(&self, alloc: Global) -> Result<Vec<Word>, AllocError>
         ensures words { IfOk result (λ words. words.items ≡ map (λ line. line.word) self.now.lines) }
         ensures few { IfOk result (λ words. length words.items < 2 ^ 32) }
     {
@@ -176,14 +181,14 @@ impl Drafted {
     }
 
     /// The spots of the words.
-    pub fn spots(&self, alloc: Global) -> Result<Vec<Spot>, AllocError>
+    pub(crate) fn spots(&self, alloc: Global) -> Result<Vec<Spot>, AllocError>
         ensures { IfOk result (λ spots. spots.items ≡ map (λ line. line.spot) self.now.lines) }
     {
         self.lines.iter().map(|line| line.spot).collect(alloc)
     }
 
     /// The functions and regions, without the words.
-    pub fn into_tables(self) -> (Vec<Func>, Vec<Region>)
+    pub(crate) fn into_tables(self) -> (Vec<Func>, Vec<Region>)
         ensures functions { result.0.items ≡ self.functions }
         ensures regions { result.1.items ≡ self.regions }
     {
@@ -191,7 +196,7 @@ impl Drafted {
     }
 
     /// Puts a function behind the others.
-    pub fn put_function(&mut self, function: Func) -> Result<(), AllocError>
+    pub(crate) fn put_function(&mut self, function: Func) -> Result<(), AllocError>
         ensures { OnOk result (self.new ≡ record self.old { functions = self.old.functions ++ function ∷ [] }) }
     {
         self.functions.push(function)?;
@@ -200,7 +205,7 @@ impl Drafted {
 }
 
 fn numbered(count: usize) -> Result<u32, AllocError>
-    ensures { IfOk result (λ n. n ≡ count) }
+    ensures { OkIff result (count < 2 ^ 32) count }
 {
     match u32::try_from(count) {
         Ok(number) => Ok(number),
@@ -209,7 +214,7 @@ fn numbered(count: usize) -> Result<u32, AllocError>
 }
 
 /// Private words and the cells that carry them, numbered from 0.
-pub fn cells_of(alloc: Global, carried: &[u32]) -> Result<Vec<Carried>, AllocError>
+pub(crate) fn cells_of(alloc: Global, carried: &[u32]) -> Result<Vec<Carried>, AllocError>
     ensures { IfOk result (λ cells. cells.items ≡ cells_from carried.now 0) }
 {
     let mut cells = Vec::new(alloc);
@@ -240,7 +245,7 @@ fn cell_of(carried: &[Carried], private: u32) -> Option<u32>
 }
 
 /// The words of an array.
-pub fn array_of(words: Words) -> Array
+pub(crate) fn array_of(words: Words) -> Array
     ensures { result ≡ lines.array_of words }
 {
     Array {

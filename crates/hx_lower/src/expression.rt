@@ -1,6 +1,6 @@
 // The words of expressions.
 
-ghost use Rattle.std.specs.Prelude.{◌≡◌, ◌+◌, ◌<◌, ◌≤◌, OnOk, IfOk, map, length, pos};
+ghost use Rattle.std.specs.Prelude.{◌≡◌, ◌+◌, ◌<◌, ◌^◌, ◌≤◌, OnOk, OkIff, IfOk, map, length, pos};
 ghost use Rattle.hx_code.specs.declared.word.Word.TheVariants.{Const};
 ghost use Rattle.hx_check.specs.Resolved.{exprs};
 ghost use Rattle.hx_check.specs.Views.{resolved_expr};
@@ -17,7 +17,7 @@ use std::alloc::AllocError;
 
 /// Puts the words of an expression, whose value comes on top of so many operands.
 #[cycle(expressions)]
-pub fn put_expr(
+pub(crate) fn put_expr(
     draft: &mut Drafted,
     e: &Expr,
     version: &Version<'_>,
@@ -93,7 +93,7 @@ fn put_side(
 
 // The place of the last word of `&&` or `||`, whose sides begin at a place.
 fn behind_sides(place: u32, left: &Expr, right: &Expr) -> Result<u32, AllocError>
-    ensures { IfOk result (λ n. (n ≡ place + size.expr_size (resolved_expr left.now) + 1 + size.expr_size (resolved_expr right.now) + 3) × (n + 1 < 4294967296)) }
+    ensures { OkIff result (place + size.expr_size (resolved_expr left.now) + 1 + size.expr_size (resolved_expr right.now) + 4 < 2 ^ 32) (place + size.expr_size (resolved_expr left.now) + 1 + size.expr_size (resolved_expr right.now) + 3) }
 {
     let Some(first) = expr_size(left) else {
         return Err(AllocError);
@@ -111,7 +111,7 @@ fn behind_sides(place: u32, left: &Expr, right: &Expr) -> Result<u32, AllocError
 
 // The word of a number: a constant of an accepted program fits 32 bits with their sign.
 fn constant(n: u32) -> Result<Word, AllocError>
-    ensures { IfOk result (λ w. w ≡ Const (pos n)) }
+    ensures { OkIff result (n < 2 ^ 31) (Const (pos n)) }
 {
     match i32::try_from(n) {
         Ok(value) => Ok(Word::Const(value)),
@@ -121,7 +121,7 @@ fn constant(n: u32) -> Result<Word, AllocError>
 
 /// Puts the words of arguments, and answers how many operands there are then.
 #[cycle(expressions)]
-pub fn put_exprs(
+pub(crate) fn put_exprs(
     draft: &mut Drafted,
     es: &[Expr],
     version: &Version<'_>,

@@ -15,7 +15,7 @@ use hx_code::word::{Array, Word};
 use std::alloc::{AllocError, Global};
 
 /// Puts the words of a function, whose end returns 0, and the function behind the others.
-pub fn put_function(
+pub(crate) fn put_function(
     alloc: Global,
     draft: &mut Drafted,
     f: &Function,
@@ -33,7 +33,7 @@ pub fn put_function(
 }
 
 /// Puts the words of functions, one behind another.
-pub fn put_functions(
+pub(crate) fn put_functions(
     alloc: Global,
     draft: &mut Drafted,
     fs: &[Function],
@@ -86,7 +86,10 @@ fn drafted(alloc: Global, program: &Program, globals: u32) -> Result<Drafted, Al
 /// The words of a program, with what is told of them.
 ///
 /// Fails for want of memory, or where 32 bits don't number the words.
-pub fn words_and_tables(alloc: Global, program: &Program) -> Result<(Vec<Word>, Tables), AllocError>
+pub(crate) fn words_and_tables(
+    alloc: Global,
+    program: &Program,
+) -> Result<(Vec<Word>, Tables), AllocError>
     ensures code { IfOk result (λ both. code_with both.0.items both.1 ≡ code_of (resolved_of program.now)) }
     ensures few { IfOk result (λ both. length both.0.items < 2 ^ 32) }
 {

@@ -1,6 +1,6 @@
 // How many words each part of a program has; none where 32 bits don't count them.
 
-ghost use Rattle.std.specs.Prelude.{◌≡◌, ◌+◌, IfSome, map, option_map};
+ghost use Rattle.std.specs.Prelude.{◌≡◌, ◌+◌, ◌<◌, ◌^◌, SomeIff, map, option_map};
 ghost use Rattle.hx_check.specs.Resolved.{exprs, stmts};
 ghost use Rattle.hx_check.specs.Views.{resolved_assignment, resolved_clauses, resolved_expr, resolved_kind, resolved_place, resolved_simple, resolved_stmt};
 ghost use Rattle.hx_lowering.specs.Size as size;
@@ -10,15 +10,15 @@ use hx_check::resolved::{Assignment, Clauses, Expr, LoopKind, Place, Simple, Stm
 use hx_tree::tree::BinaryOp;
 
 fn sum(a: u32, b: u32, more: u32) -> Option<u32>
-    ensures { IfSome result (λ n. n ≡ a + b + more) }
+    ensures { SomeIff result (a + b + more < 2 ^ 32) (a + b + more) }
 {
     a.checked_add(b)?.checked_add(more)
 }
 
 /// The words of an expression.
 #[cycle(expressions)]
-pub fn expr_size(e: &Expr) -> Option<u32>
-    ensures { IfSome result (λ n. n ≡ size.expr_size (resolved_expr e.now)) }
+pub(crate) fn expr_size(e: &Expr) -> Option<u32>
+    ensures { SomeIff result (size.expr_size (resolved_expr e.now) < 2 ^ 32) (size.expr_size (resolved_expr e.now)) }
 {
     match e {
         Expr::Number(_) => Some(1),
@@ -47,8 +47,8 @@ fn binary_size(op: BinaryOp) -> u32
 
 /// The words of arguments.
 #[cycle(expressions)]
-pub fn exprs_size(es: &[Expr]) -> Option<u32>
-    ensures { IfSome result (λ n. n ≡ size.exprs_size (exprs (map resolved_expr es.now))) }
+pub(crate) fn exprs_size(es: &[Expr]) -> Option<u32>
+    ensures { SomeIff result (size.exprs_size (exprs (map resolved_expr es.now)) < 2 ^ 32) (size.exprs_size (exprs (map resolved_expr es.now))) }
 {
     let mut words = 0u32;
     for e in es {
@@ -58,8 +58,8 @@ pub fn exprs_size(es: &[Expr]) -> Option<u32>
 }
 
 /// The words of an assignment.
-pub fn assignment_size(a: &Assignment) -> Option<u32>
-    ensures { IfSome result (λ n. n ≡ size.assignment_size (resolved_assignment a.now)) }
+pub(crate) fn assignment_size(a: &Assignment) -> Option<u32>
+    ensures { SomeIff result (size.assignment_size (resolved_assignment a.now) < 2 ^ 32) (size.assignment_size (resolved_assignment a.now)) }
 {
     match a {
         Assignment::Set(Place::Private(_), e) => expr_size(e)?.checked_add(1),
@@ -74,8 +74,8 @@ pub fn assignment_size(a: &Assignment) -> Option<u32>
 }
 
 /// The words of a declared local or an assignment.
-pub fn simple_size(s: &Simple) -> Option<u32>
-    ensures { IfSome result (λ n. n ≡ size.simple_size (resolved_simple s.now)) }
+pub(crate) fn simple_size(s: &Simple) -> Option<u32>
+    ensures { SomeIff result (size.simple_size (resolved_simple s.now) < 2 ^ 32) (size.simple_size (resolved_simple s.now)) }
 {
     match s {
         Simple::Declare(_, e) => expr_size(e)?.checked_add(1),
@@ -84,8 +84,8 @@ pub fn simple_size(s: &Simple) -> Option<u32>
 }
 
 /// The words of what stands before a loop.
-pub fn simples_size(ss: &[Simple]) -> Option<u32>
-    ensures { IfSome result (λ n. n ≡ size.simples_size (map resolved_simple ss.now)) }
+pub(crate) fn simples_size(ss: &[Simple]) -> Option<u32>
+    ensures { SomeIff result (size.simples_size (map resolved_simple ss.now) < 2 ^ 32) (size.simples_size (map resolved_simple ss.now)) }
 {
     let mut words = 0u32;
     for s in ss {
@@ -95,8 +95,8 @@ pub fn simples_size(ss: &[Simple]) -> Option<u32>
 }
 
 /// The words of a test with its jump.
-pub fn test_size(test: &Option<Expr>) -> Option<u32>
-    ensures { IfSome result (λ n. n ≡ size.test_size (option_map resolved_expr test.now)) }
+pub(crate) fn test_size(test: &Option<Expr>) -> Option<u32>
+    ensures { SomeIff result (size.test_size (option_map resolved_expr test.now) < 2 ^ 32) (size.test_size (option_map resolved_expr test.now)) }
 {
     match test {
         None => Some(0),
@@ -105,8 +105,8 @@ pub fn test_size(test: &Option<Expr>) -> Option<u32>
 }
 
 /// The words of a step.
-pub fn step_size(step: &Option<Assignment>) -> Option<u32>
-    ensures { IfSome result (λ n. n ≡ size.step_size (option_map resolved_assignment step.now)) }
+pub(crate) fn step_size(step: &Option<Assignment>) -> Option<u32>
+    ensures { SomeIff result (size.step_size (option_map resolved_assignment step.now) < 2 ^ 32) (size.step_size (option_map resolved_assignment step.now)) }
 {
     match step {
         None => Some(0),
@@ -115,15 +115,15 @@ pub fn step_size(step: &Option<Assignment>) -> Option<u32>
 }
 
 /// The words of a turn with a body of so many.
-pub fn turn_size(c: &Clauses, body: u32) -> Option<u32>
-    ensures { IfSome result (λ n. n ≡ size.turn_size (resolved_clauses c.now) body) }
+pub(crate) fn turn_size(c: &Clauses, body: u32) -> Option<u32>
+    ensures { SomeIff result (size.turn_size (resolved_clauses c.now) body < 2 ^ 32) (size.turn_size (resolved_clauses c.now) body) }
 {
     sum(test_size(&c.test)?, body, step_size(&c.step)?)
 }
 
 /// The words of a loop with turns of so many.
-pub fn loop_size(kind: &LoopKind, turn: u32) -> Option<u32>
-    ensures { IfSome result (λ n. n ≡ size.loop_size (resolved_kind kind.now) turn) }
+pub(crate) fn loop_size(kind: &LoopKind, turn: u32) -> Option<u32>
+    ensures { SomeIff result (size.loop_size (resolved_kind kind.now) turn < 2 ^ 32) (size.loop_size (resolved_kind kind.now) turn) }
 {
     match kind {
         LoopKind::Plain => turn.checked_add(1),
@@ -133,8 +133,8 @@ pub fn loop_size(kind: &LoopKind, turn: u32) -> Option<u32>
 
 /// The words of a statement.
 #[cycle(statements)]
-pub fn stmt_size(s: &Stmt) -> Option<u32>
-    ensures { IfSome result (λ n. n ≡ size.stmt_size (resolved_stmt s.now)) }
+pub(crate) fn stmt_size(s: &Stmt) -> Option<u32>
+    ensures { SomeIff result (size.stmt_size (resolved_stmt s.now) < 2 ^ 32) (size.stmt_size (resolved_stmt s.now)) }
 {
     match s {
         Stmt::Block(inner) => stmts_size(inner),
@@ -159,8 +159,8 @@ pub fn stmt_size(s: &Stmt) -> Option<u32>
 
 /// The words of statements.
 #[cycle(statements)]
-pub fn stmts_size(ss: &[Stmt]) -> Option<u32>
-    ensures { IfSome result (λ n. n ≡ size.stmts_size (stmts (map resolved_stmt ss.now))) }
+pub(crate) fn stmts_size(ss: &[Stmt]) -> Option<u32>
+    ensures { SomeIff result (size.stmts_size (stmts (map resolved_stmt ss.now)) < 2 ^ 32) (size.stmts_size (stmts (map resolved_stmt ss.now))) }
 {
     let mut words = 0u32;
     for s in ss {

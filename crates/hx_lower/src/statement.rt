@@ -18,7 +18,7 @@ use std::alloc::{AllocError, Global};
 
 /// Puts the words of a statement, whose `break` and `continue` go to these places.
 #[cycle(statements)]
-pub fn put_stmt(
+pub(crate) fn put_stmt(
     alloc: Global,
     draft: &mut Drafted,
     s: &Stmt,
@@ -73,7 +73,7 @@ pub fn put_stmt(
 
 /// Puts the words of statements.
 #[cycle(statements)]
-pub fn put_stmts(
+pub(crate) fn put_stmts(
     alloc: Global,
     draft: &mut Drafted,
     ss: &[Stmt],

@@ -1,6 +1,6 @@
 // Places that jumps go to, told before the words on the way are put.
 
-ghost use Rattle.std.specs.Prelude.{◌≡◌, ◌+◌, IfOk};
+ghost use Rattle.std.specs.Prelude.{◌≡◌, ◌+◌, ◌<◌, ◌^◌, IfErr, IfOk, OkIff};
 ghost use Rattle.hx_check.specs.Views.{resolved_clauses, resolved_expr, resolved_stmt};
 ghost use Rattle.hx_lowering.specs.Draft.{targets, no_targets};
 ghost use Rattle.hx_lowering.specs.Size as size;
@@ -27,7 +27,7 @@ impl Model for Targets {
 
 impl Targets {
     /// Those of a function's body, which no loop is around.
-    pub fn none() -> Targets
+    pub(crate) fn none() -> Targets
         ensures { result ≡ no_targets }
     {
         Targets {
@@ -37,7 +37,7 @@ impl Targets {
     }
 
     /// Those of a turn that begins at a place, with a body of so many words.
-    pub fn of_turn(clauses: &Clauses, body: u32, start: u32) -> Result<Targets, AllocError>
+    pub(crate) fn of_turn(clauses: &Clauses, body: u32, start: u32) -> Result<Targets, AllocError>
         ensures { IfOk result (λ to. to ≡ targets (resolved_clauses clauses.now) body start) }
     {
         let turn = counted(turn_size(clauses, body))?;
@@ -49,14 +49,14 @@ impl Targets {
     }
 
     /// Where `break` goes.
-    pub fn break_to(&self) -> u32
+    pub(crate) fn break_to(&self) -> u32
         ensures { result ≡ self.now.break_to }
     {
         self.break_to
     }
 
     /// Where `continue` goes.
-    pub fn continue_to(&self) -> u32
+    pub(crate) fn continue_to(&self) -> u32
         ensures { result ≡ self.now.continue_to }
     {
         self.continue_to
@@ -64,8 +64,9 @@ impl Targets {
 }
 
 /// A count of words, where 32 bits have one.
-pub fn counted(words: Option<u32>) -> Result<u32, AllocError>
-    ensures { IfOk result (λ n. words ≡ Some n) }
+pub(crate) fn counted(words: Option<u32>) -> Result<u32, AllocError>
+    ensures counted { IfOk result (λ n. words ≡ Some n) }
+    ensures uncounted { IfErr result (λ _. words ≡ None) }
 {
     match words {
         Some(n) => Ok(n),
@@ -74,8 +75,8 @@ pub fn counted(words: Option<u32>) -> Result<u32, AllocError>
 }
 
 /// The place behind two parts.
-pub fn behind(place: u32, part: u32, other: u32) -> Result<u32, AllocError>
-    ensures { IfOk result (λ n. n ≡ place + part + other) }
+pub(crate) fn behind(place: u32, part: u32, other: u32) -> Result<u32, AllocError>
+    ensures { OkIff result (place + part + other < 2 ^ 32) (place + part + other) }
 {
     let behind = u64::from(place) + u64::from(part) + u64::from(other);
     if behind <= u64::from(u32::MAX) {
@@ -86,8 +87,8 @@ pub fn behind(place: u32, part: u32, other: u32) -> Result<u32, AllocError>
 }
 
 /// The place behind an `if`'s test with its jump, and the statement that it guards.
-pub fn behind_if(place: u32, test: &Expr, inner: &Stmt) -> Result<u32, AllocError>
-    ensures { IfOk result (λ n. n ≡ place + size.expr_size (resolved_expr test.now) + 1 + size.stmt_size (resolved_stmt inner.now)) }
+pub(crate) fn behind_if(place: u32, test: &Expr, inner: &Stmt) -> Result<u32, AllocError>
+    ensures { OkIff result (place + size.expr_size (resolved_expr test.now) + 1 + size.stmt_size (resolved_stmt inner.now) < 2 ^ 32) (place + size.expr_size (resolved_expr test.now) + 1 + size.stmt_size (resolved_stmt inner.now)) }
 {
     let first = counted(expr_size(test))?;
     let second = counted(stmt_size(inner))?;

@@ -34,7 +34,7 @@ pub struct Iterated {
 
 impl Iterations {
     /// Room for a region that is still to open.
-    pub fn new(alloc: Global, code: &Code) -> Result<Iterations, AllocError>
+    pub(crate) fn new(alloc: Global, code: &Code) -> Result<Iterations, AllocError>
         ensures { IfOk result (λ i. TEXT_LIMIT ≤ vec_capacity i.text) }
     {
         Ok(Iterations {
@@ -63,7 +63,7 @@ impl Iterations {
     }
 
     /// A region opens: its first iteration begins, without text of its own.
-    pub fn open(&mut self, code: &Code, opened: Opened)
+    pub(crate) fn open(&mut self, code: &Code, opened: Opened)
         requires { IsOpened code.now (opened_of opened) }
         ensures same { (store : List ℤ) → running self.new store None ≡ region_opening code.now (opened_of opened) store }
         ensures room { vec_capacity self.new.text ≡ vec_capacity self.old.text }
@@ -75,7 +75,7 @@ impl Iterations {
     }
 
     /// The region's text and its whole turns.
-    pub fn told(self) -> (Vec<u8>, u64)
+    pub(crate) fn told(self) -> (Vec<u8>, u64)
         ensures text { result.0.items ≡ self.text.items }
         ensures turns { result.1 ≡ self.turns }
     {
@@ -90,7 +90,7 @@ impl Iterations {
     }
 
     /// Does words of the region, up to so many or to its end.
-    pub fn run(&mut self, code: &Code, store: &mut [i32], steps: u64) -> Iterated
+    pub(crate) fn run(&mut self, code: &Code, store: &mut [i32], steps: u64) -> Iterated
         requires well { RunsWell code.now (running self.old store.old None) }
         requires room { TEXT_LIMIT ≤ vec_capacity self.old.text }
         ensures ran { region_after code.now result.words (running self.old store.old None) ≡ running self.new store.new result.exit }

@@ -7,7 +7,7 @@ use hx_code::code::Code;
 use std::alloc::{AllocError, Global};
 
 /// How many words of the input there is room for.
-pub fn room_for(code: &Code) -> usize
+pub(crate) fn room_for(code: &Code) -> usize
     ensures { result ≡ room_for_input code.now }
 {
     match code.input() {
@@ -17,7 +17,11 @@ pub fn room_for(code: &Code) -> usize
 }
 
 /// The globals with the input in its array and its length in the word for it, and then the cells.
-pub fn opening_store(alloc: Global, code: &Code, input: &[i32]) -> Result<Vec<i32>, AllocError>
+pub(crate) fn opening_store(
+    alloc: Global,
+    code: &Code,
+    input: &[i32],
+) -> Result<Vec<i32>, AllocError>
     requires { InputFits code.now input.now }
     ensures { IfOk result (λ s. s.items ≡ store_of code.now input.now) }
 {

@@ -15,11 +15,11 @@ fn read_file<R: Files + AllocGlobal>(rt: &R, path: &str, most: u64) -> io::Resul
 }
 
 /// The bytes of a source, or its first 65,537.
-pub fn read_source<R: Files + AllocGlobal>(rt: &R, path: &str) -> io::Result<Vec<u8>> {
+pub(crate) fn read_source<R: Files + AllocGlobal>(rt: &R, path: &str) -> io::Result<Vec<u8>> {
     read_file(rt, path, SOURCE_LIMIT as u64 + 1)
 }
 
 /// The bytes of an input text, or its first 1,048,577.
-pub fn read_input<R: Files + AllocGlobal>(rt: &R, path: &str) -> io::Result<Vec<u8>> {
+pub(crate) fn read_input<R: Files + AllocGlobal>(rt: &R, path: &str) -> io::Result<Vec<u8>> {
     read_file(rt, path, INPUT_LIMIT as u64 + 1)
 }

@@ -111,7 +111,7 @@ fn source_of<'a>(matches: &ArgMatches<'a>) -> &'a str {
 }
 
 /// Reads a command line, or tells what is wrong with it. `None` stands for a line that names no command.
-pub fn read_words<'a, S: AsStr>(
+pub(crate) fn read_words<'a, S: AsStr>(
     alloc: Global,
     words: &'a [S],
 ) -> Result<Option<Request<'a>>, Error> {

@@ -46,7 +46,7 @@ fn tell<E: Write>(err: &mut E, line: &[u8]) {
 }
 
 /// A file that doesn't open or can't be read.
-pub fn tell_read_failed<E: Write>(err: &mut E) -> Status
+pub(crate) fn tell_read_failed<E: Write>(err: &mut E) -> Status
     ensures { result ≡ status.Device }
 {
     tell(err, b"hydra: read failed\n");
@@ -54,7 +54,7 @@ pub fn tell_read_failed<E: Write>(err: &mut E) -> Status
 }
 
 /// An output that takes no more.
-pub fn tell_write_failed<E: Write>(err: &mut E) -> Status
+pub(crate) fn tell_write_failed<E: Write>(err: &mut E) -> Status
     ensures { result ≡ status.Device }
 {
     tell(err, b"hydra: write failed\n");
@@ -62,7 +62,7 @@ pub fn tell_write_failed<E: Write>(err: &mut E) -> Status
 }
 
 /// Want of memory.
-pub fn tell_memory<E: Write>(err: &mut E) -> Status
+pub(crate) fn tell_memory<E: Write>(err: &mut E) -> Status
     ensures { result ≡ status.Memory }
 {
     tell(err, b"hydra: memory\n");
@@ -70,7 +70,7 @@ pub fn tell_memory<E: Write>(err: &mut E) -> Status
 }
 
 /// A run that isn't over.
-pub fn tell_not_ended<E: Write>(err: &mut E, steps: u64) -> Status
+pub(crate) fn tell_not_ended<E: Write>(err: &mut E, steps: u64) -> Status
     ensures { result ≡ status.Refused }
 {
     let _ = writeln!(err, "hydra: not ended after {steps} steps");
@@ -78,7 +78,7 @@ pub fn tell_not_ended<E: Write>(err: &mut E, steps: u64) -> Status
 }
 
 /// A refusal, with its number and, where it has one, its place.
-pub fn tell_refusal<E: Write>(err: &mut E, refusal: &Refusal) -> Status
+pub(crate) fn tell_refusal<E: Write>(err: &mut E, refusal: &Refusal) -> Status
     ensures { result ≡ status_of_refusal refusal.now }
 {
     if refusal.is_memory() {
@@ -93,7 +93,11 @@ pub fn tell_refusal<E: Write>(err: &mut E, refusal: &Refusal) -> Status
 }
 
 /// Help goes to the output, and what is wrong with a command line to the error stream.
-pub fn tell_command_line<W: Write, E: Write>(error: &Error, out: &mut W, err: &mut E) -> Status
+pub(crate) fn tell_command_line<W: Write, E: Write>(
+    error: &Error,
+    out: &mut W,
+    err: &mut E,
+) -> Status
     ensures { result ≢ status.Fault }
 {
     if error.kind() == ErrorKind::OutOfMemory {
@@ -110,7 +114,7 @@ pub fn tell_command_line<W: Write, E: Write>(error: &Error, out: &mut W, err: &m
 }
 
 /// Text for the output.
-pub fn show_text<W: Write, E: Write>(text: &[u8], out: &mut W, err: &mut E) -> Status
+pub(crate) fn show_text<W: Write, E: Write>(text: &[u8], out: &mut W, err: &mut E) -> Status
     ensures { ShowsText text.now (W.contents out.old) (W.contents out.new) result }
 {
     if out.write_all(text).is_err() || out.flush().is_err() {
@@ -120,7 +124,7 @@ pub fn show_text<W: Write, E: Write>(text: &[u8], out: &mut W, err: &mut E) -> S
 }
 
 /// The printed text of a run, and its fault, if it ended by one.
-pub fn show_finish<W: Write, E: Write>(finish: &Finish, out: &mut W, err: &mut E) -> Status
+pub(crate) fn show_finish<W: Write, E: Write>(finish: &Finish, out: &mut W, err: &mut E) -> Status
     ensures { ShowsFinish finish.now (W.contents out.old) (W.contents out.new) result }
 {
     let shown = show_text(finish.outcome.text.as_slice(), out, err);

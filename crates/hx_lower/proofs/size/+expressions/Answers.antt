@@ -10,3 +10,9 @@ expr_size-returns-in_ok-exprs_size-in-Call t c =
     let all : size.expr_size (resolved_expr c.args.e.now) ≡ size.exprs_size (exprs (map resolved_expr c.in-Call.arguments.items)) + 1 =
     ap (λ e. size.expr_size (resolved_expr e)) c.in-Call.is ∙ ap size.expr_size (call_is c.in-Call.field-0 c.in-Call.field-1 c.in-Call.arguments) in
     search rules
+
+pub expr_size-returns-in_err-exprs_size-in-Call : goal.expr_size-returns-in_err-exprs_size-in-Call
+expr_size-returns-in_err-exprs_size-in-Call t c =
+    let all : size.expr_size (resolved_expr c.args.e.now) ≡ size.exprs_size (exprs (map resolved_expr c.in-Call.arguments.items)) + 1 =
+    ap (λ e. size.expr_size (resolved_expr e)) c.in-Call.is ∙ ap size.expr_size (call_is c.in-Call.field-0 c.in-Call.field-1 c.in-Call.arguments) in
+    search rules
