@@ -91,7 +91,8 @@ fn put_side(
     draft.put(version, above, decides)
 }
 
-// The place of the last word of `&&` or `||`, whose sides begin at a place.
+// The place of the last word of `&&` or `||`, whose sides begin at a place. There is one where 32 bits have the place behind
+// it as well, where the jump over it goes.
 fn behind_sides(place: u32, left: &Expr, right: &Expr) -> Result<u32, AllocError>
     ensures { OkIff result (place + size.expr_size (resolved_expr left.now) + 1 + size.expr_size (resolved_expr right.now) + 4 < 2 ^ 32) (place + size.expr_size (resolved_expr left.now) + 1 + size.expr_size (resolved_expr right.now) + 3) }
 {
