@@ -184,5 +184,8 @@ pub(crate) fn code_of(alloc: Global, sketch: Sketch) -> Result<Option<Code>, All
         input: None,
         input_length: None,
     };
-    Ok(validate(words, tables))
+    match validate(words, tables) {
+        Some(code) => Ok(Some(code.with_shortcuts(alloc)?)),
+        None => Ok(None),
+    }
 }

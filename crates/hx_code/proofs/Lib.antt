@@ -7,3 +7,4 @@ pub mod Calls
 pub mod Locals
 pub mod Regions
 pub mod Validation
+pub mod Shortcuts

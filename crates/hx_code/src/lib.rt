@@ -7,6 +7,9 @@ pub mod code;
 pub mod local;
 mod number;
 mod operands;
+mod quick;
+pub mod shortcut;
+mod shorten;
 mod step;
 pub mod table;
 #[cfg(test)]

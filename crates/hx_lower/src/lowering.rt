@@ -28,7 +28,10 @@ pub fn lower(alloc: Global, checked: &Checked) -> Result<Code, LowerError>
     lowered_code_is_valid();
     code_behaves();
     match validate(words, tables) {
-        Some(code) => Ok(code),
+        Some(code) => {
+            let quick = code.with_shortcuts(alloc)?;
+            Ok(quick)
+        }
         None => unreachable!(),
     }
 }
