@@ -21,5 +21,3 @@ pub mod resolved;
 mod statement;
 pub mod symbol;
 mod table;
-#[cfg(test)]
-mod tests;

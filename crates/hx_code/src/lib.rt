@@ -12,8 +12,6 @@ pub mod shortcut;
 mod shorten;
 mod step;
 pub mod table;
-#[cfg(test)]
-mod tests;
 pub mod validate;
 pub mod word;
 

@@ -15,6 +15,3 @@ mod text;
 pub use error::LowerError;
 pub use lowering::lower;
 pub use text::listing;
-
-#[cfg(test)]
-mod tests;

@@ -13,6 +13,3 @@ mod statements;
 
 pub use error::ParseError;
 pub use program::parse;
-
-#[cfg(test)]
-mod tests;

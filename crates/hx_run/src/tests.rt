@@ -3,5 +3,7 @@
 mod checking;
 mod forms;
 mod listings;
+mod parsing;
 mod paths;
 mod rows;
+mod trees;

@@ -1,5 +1,7 @@
 // Codes by hand, run by the plain machine. Places of words and answers follow from the language's rules.
 
+mod executor;
+
 ghost use Rattle.std.specs.Prelude.{◌≡◌};
 
 use crate::entry::{Entry, RegionEnd};

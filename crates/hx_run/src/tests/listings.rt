@@ -17,6 +17,26 @@ fn lists(rt: &impl Abort, alloc: Global, source: &[u8], wanted: &[u8]) -> Result
     Ok(())
 }
 
+#[test]
+fn the_shortest(rt: HostRuntime) -> Result<(), Fail> {
+    lists(
+        &rt,
+        rt.alloc(),
+        b"int main(){}",
+        b"globals 0\nfunc main 0 0 0\n0 const 0\n1 ret\n",
+    )
+}
+
+#[test]
+fn a_local(rt: HostRuntime) -> Result<(), Fail> {
+    lists(
+        &rt,
+        rt.alloc(),
+        b"int main(){ int s; }",
+        b"globals 0\nfunc main 0 0 1\n0 const 0\n1 setpriv 0\n2 const 0\n3 ret\n",
+    )
+}
+
 // A loop over a global word: it carries nothing.
 #[test]
 fn a_marked_loop(rt: HostRuntime) -> Result<(), Fail> {

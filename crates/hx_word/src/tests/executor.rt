@@ -1,10 +1,10 @@
 // Small codes by hand: what the rules refuse, and what the executor does before it asks.
 
-use crate::code::Code;
-use crate::local::Local;
-use crate::table::{Carried, Func, Region, Spot, Tables};
-use crate::validate::validate;
-use crate::word::{Array, Ask, Output, Word};
+use hx_code::code::Code;
+use hx_code::local::Local;
+use hx_code::table::{Carried, Func, Region, Spot, Tables};
+use hx_code::validate::validate;
+use hx_code::word::{Array, Ask, Output, Word};
 use hx_tree::outcome::{Fault, FaultKind};
 use hx_tree::token::Pos;
 use hx_tree::tree::{Operator, UnaryOp};

@@ -1,7 +1,7 @@
-// Trees that no source spells, and the texts of refusals. Sources are tested in hx_run, where they can be parsed.
+// Trees that no source spells, and the texts of the checker's refusals.
 
-use crate::check::check;
-use crate::error::CheckError;
+use hx_check::check::check;
+use hx_check::error::CheckError;
 use hx_tree::token::Pos;
 use hx_tree::tree::{Expr, Func, Item, Name, Params, Part, Program, Returns, Stmt};
 use std::alloc::{AllocError, Global};

@@ -1,7 +1,7 @@
 // What no clause says: the places of refusals, that memory suffices, and which tree a text is.
 
-use crate::{ParseError, parse};
 use hx_lex::tokens;
+use hx_parse::{ParseError, parse};
 use hx_tree::token::Pos;
 use hx_tree::tree::{Item, Part, Program, Stmt};
 use std::alloc::{AllocError, Global};
