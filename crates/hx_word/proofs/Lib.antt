@@ -7,3 +7,4 @@ pub mod Inside
 pub mod Advance
 pub mod First
 pub mod Entries
+pub mod Alone

@@ -4,3 +4,4 @@ pub mod Running
 pub mod Plain
 pub mod Ran
 pub mod Entry
+pub mod Laws

@@ -5,6 +5,7 @@
 mod carry;
 pub mod entry;
 mod iterations;
+pub mod laws;
 mod opened;
 mod opening;
 pub mod plain;
