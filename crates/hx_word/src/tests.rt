@@ -511,12 +511,12 @@ fn a_region_runs_by_itself(rt: HostRuntime) -> Result<(), Fail> {
             assert_eq!(rt; open.region(), 0);
             let end = by_itself(rt.alloc(), &code, &open, 22)?;
             assert_eq!(rt; end.exit, Exit::Left);
-            assert_eq!(rt; end.store.len(), 65);
+            assert_eq!(rt;
+                [end.store.len(), end.locals.len(), end.text.len()],
+                [65, 0, 0]
+            );
             assert_eq!(rt; end.store.first().copied(), Some(2));
-            assert_eq!(rt; end.locals.len(), 0);
-            assert_eq!(rt; end.text.len(), 0);
-            assert_eq!(rt; end.counts.turns, 2);
-            assert_eq!(rt; end.counts.regions, 1);
+            assert_eq!(rt; [end.counts.regions, end.counts.turns], [1, 2]);
             Ok(())
         }
         Paused::Ended(_, _) => Err(Fail::from("ended")),
