@@ -7,6 +7,7 @@ ghost use Rattle.std.specs.Prelude.{◌≡◌};
 use crate::entry::{Entry, RegionEnd};
 use crate::plain::{Open, Paused, Plain, PlainError, Ran, Reached};
 use crate::region_run::RegionRun;
+use crate::tests::executor::spots;
 use crate::text::print;
 use hx_code::code::Code;
 use hx_code::table::{Carried, Func, Region, Spot, Tables};
@@ -24,24 +25,6 @@ const NOWHERE: Pos = Pos { line: 1, col: 1 };
 const LESS: Word = Word::Binary(Operator::Less, NOWHERE);
 
 const ADD: Word = Word::Binary(Operator::Add, NOWHERE);
-
-// The place of each word: its height, and whether it stands in region 0.
-fn spots(alloc: Global, heights: &[u32], from: usize, to: usize) -> Result<Vec<Spot>, Fail> {
-    let mut spots = Vec::new(alloc);
-    for (place, height) in heights.iter().enumerate() {
-        let region = if from <= place && place < to {
-            Some(0)
-        } else {
-            None
-        };
-        spots.push(Spot {
-            function: 0,
-            region,
-            height: *height,
-        })?;
-    }
-    Ok(spots)
-}
 
 // Code of main and of f, which takes so many parameters and begins at a place.
 fn main_and_f(
