@@ -14,9 +14,6 @@ use hx_tree::limits::SOURCE_LIMIT;
 use hx_tree::token::{Kind, Pos};
 use std::alloc::{AllocError, Global};
 
-#[cfg(test)]
-mod tests;
-
 /// The tokens of a source: white space and comments stand between them, and each is the longest that can stand
 /// where it begins (ISO/IEC 9899:2011, 6.4, paragraph 4). Their spans rise, and a token's text is the source's slice
 /// at its span.

@@ -13,9 +13,3 @@ pub fn lowered_code_is_valid()
 pub fn spelled_code_is_short()
     ensures { SpelledCodeIsShort }
 {}
-
-#[test]
-fn the_laws_are_called() {
-    lowered_code_is_valid();
-    spelled_code_is_short();
-}

@@ -2,7 +2,10 @@
 
 mod checking;
 mod forms;
+mod inputs;
+mod lexing;
 mod listings;
+mod nodes;
 mod parsing;
 mod paths;
 mod rows;

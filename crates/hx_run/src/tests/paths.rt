@@ -1,6 +1,6 @@
 // Worked programs and refusals, by the whole path.
 
-use crate::{PlainRan, Refusal, are_in_range, compile, parse_input, run, run_plain};
+use crate::{PlainRan, Refusal, are_in_range, compile, run, run_plain};
 use hx_tree::outcome::{End, Finish, Settings};
 use hx_tree::token::Pos;
 use std::alloc::Global;
@@ -179,39 +179,4 @@ fn counts_words(rt: HostRuntime) {
         Some(finish) => assert_eq!(&rt; finish.outcome.globals.as_slice(), [2].as_slice()),
         None => assert!(&rt; false),
     }
-}
-
-fn reads(rt: &impl Abort, alloc: Global, text: &[u8], wanted: &[i32]) {
-    match parse_input(alloc, text) {
-        Ok(numbers) => assert_eq!(rt; numbers.as_slice(), wanted),
-        Err(_) => assert!(rt; false),
-    }
-}
-
-fn reads_nothing(rt: &impl Abort, alloc: Global, text: &[u8]) {
-    match parse_input(alloc, text) {
-        Ok(_) => assert!(rt; false),
-        Err(refusal) => {
-            assert_eq!(rt; refusal.number(), 65);
-            assert!(rt; refusal.pos().is_none());
-        }
-    }
-}
-
-#[test]
-fn reads_input_texts(rt: HostRuntime) -> Result<(), Fail> {
-    let alloc = rt.alloc();
-    reads(&rt, alloc, b"5 -7", &[5, -7]);
-    reads(&rt, alloc, b"", &[]);
-    reads(&rt, alloc, b"\t\r\n ", &[]);
-    reads_nothing(&rt, alloc, b"-0");
-    reads_nothing(&rt, alloc, b"+1");
-    reads_nothing(&rt, alloc, b"07");
-    // 1,048,576 bytes are the most
-    let mut long = vec![in alloc; b' '; 1_048_575]?;
-    long.push(b'8')?;
-    reads(&rt, alloc, long.as_slice(), &[8]);
-    long.push(b' ')?;
-    reads_nothing(&rt, alloc, long.as_slice());
-    Ok(())
 }

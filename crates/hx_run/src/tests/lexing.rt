@@ -1,7 +1,8 @@
-// Sources and their tokens, worked out by hand from the language's rules.
+// Sources and their tokens, worked out by hand from the language's rules, and the texts of the lexer's refusals.
 
-use super::*;
-use hx_tree::token::Mark;
+use hx_lex::{LexError, Span, tokens};
+use hx_tree::token::{Kind, Mark, Pos};
+use std::alloc::{AllocError, Global};
 use std::test::Fail;
 
 const KEYWORDS: [(&[u8], Mark); 13] = [
@@ -362,5 +363,49 @@ fn the_length_of_a_source(rt: HostRuntime) -> Result<(), Fail> {
     assert_eq!(rt; refusal(rt.alloc(), source.as_slice()), (5, 0, 0));
     let foreign = vec![in rt.alloc(); b'$'; 65537]?;
     assert_eq!(rt; refusal(rt.alloc(), foreign.as_slice()), (5, 0, 0));
+    Ok(())
+}
+
+#[test]
+fn numbers_places_and_texts(rt: HostRuntime) -> Result<(), Fail> {
+    let pos = Pos { line: 3, col: 14 };
+    let all = [
+        (
+            LexError::ForeignByte(pos),
+            1,
+            Some(pos),
+            "a byte that begins no token at 3:14",
+        ),
+        (
+            LexError::BadConstant(pos),
+            2,
+            Some(pos),
+            "no constant at 3:14",
+        ),
+        (
+            LexError::OpenComment(pos),
+            3,
+            Some(pos),
+            "a comment without an end at 3:14",
+        ),
+        (
+            LexError::LongName(pos),
+            4,
+            Some(pos),
+            "a name of more than 63 bytes at 3:14",
+        ),
+        (
+            LexError::TooLong,
+            5,
+            None,
+            "a source of more than 65536 bytes",
+        ),
+        (LexError::from(AllocError), 6, None, "out of memory"),
+    ];
+    for (error, number, place, text) in all {
+        assert_eq!(rt; error.number(), number);
+        assert_eq!(rt; error.pos(), place);
+        assert_eq!(rt; format!(in rt.alloc(); "{error}")?.as_str(), text);
+    }
     Ok(())
 }
