@@ -4,7 +4,6 @@ mod executor;
 
 ghost use Rattle.std.specs.Prelude.{◌≡◌};
 
-use crate::entry::{Entry, RegionEnd};
 use crate::plain::{Open, Paused, Plain, PlainError, Ran, Reached};
 use crate::region_run::RegionRun;
 use crate::tests::executor::spots;
@@ -129,18 +128,25 @@ fn two_turns(alloc: Global) -> Result<Code, Fail> {
     main_alone(alloc, &words, spots(alloc, &heights, 1, 11)?, regions, &[0])
 }
 
-// The outcome and the counts of a run that ends within so many words.
-fn ended(
-    alloc: Global,
-    code: &Code,
-    input: &[i32],
-    steps: u64,
-) -> Result<Option<(Outcome, Counts)>, Fail> {
-    let Ok(plain) = Plain::new(alloc, code, input) else {
+// What is told of an end: how the run ended, its first global, and how many bytes were printed, whole turns done
+// and regions opened.
+type Told = (End, Option<i32>, [u64; 3]);
+
+fn told(outcome: &Outcome, counts: Counts) -> Told {
+    (
+        outcome.end,
+        outcome.globals.first().copied(),
+        [outcome.text.len() as u64, counts.turns, counts.regions],
+    )
+}
+
+// What is told of a run that ends within so many words.
+fn ended(alloc: Global, code: &Code, steps: u64) -> Result<Option<Told>, Fail> {
+    let Ok(plain) = Plain::new(alloc, code, &[]) else {
         return Err(Fail::from("no machine"));
     };
     match plain.run(steps) {
-        Ran::Ended(outcome, counts) => Ok(Some((outcome, counts))),
+        Ran::Ended(outcome, counts) => Ok(Some(told(&outcome, counts))),
         Ran::More(_plain) => Ok(None),
     }
 }
@@ -148,26 +154,18 @@ fn ended(
 #[test]
 fn an_empty_main_ends_with_its_second_word(rt: HostRuntime) -> Result<(), Fail> {
     let code = empty_main(rt.alloc())?;
-    assert!(rt; ended(rt.alloc(), &code, &[], 1)?.is_none());
-    let (outcome, counts) = ended(rt.alloc(), &code, &[], 2)?.ok_or("not ended")?;
-    assert_eq!(rt; outcome.text.len(), 0);
-    assert_eq!(rt; outcome.globals.len(), 0);
-    assert_eq!(rt; outcome.end, End::Normal(0));
-    assert_eq!(rt; counts.turns, 0);
-    assert_eq!(rt; counts.regions, 0);
+    assert_eq!(rt; ended(rt.alloc(), &code, 1)?, None);
+    let wanted = (End::Normal(0), None, [0, 0, 0]);
+    assert_eq!(rt; ended(rt.alloc(), &code, 2)?, Some(wanted));
     Ok(())
 }
 
 #[test]
 fn two_turns_end_with_the_26th_word(rt: HostRuntime) -> Result<(), Fail> {
     let code = two_turns(rt.alloc())?;
-    assert!(rt; ended(rt.alloc(), &code, &[], 25)?.is_none());
-    let (outcome, counts) = ended(rt.alloc(), &code, &[], 26)?.ok_or("not ended")?;
-    assert_eq!(rt; outcome.text.len(), 0);
-    assert_eq!(rt; outcome.globals.as_slice(), [2].as_slice());
-    assert_eq!(rt; outcome.end, End::Normal(0));
-    assert_eq!(rt; counts.turns, 2);
-    assert_eq!(rt; counts.regions, 1);
+    assert_eq!(rt; ended(rt.alloc(), &code, 25)?, None);
+    let wanted = (End::Normal(0), Some(2), [0, 2, 1]);
+    assert_eq!(rt; ended(rt.alloc(), &code, 26)?, Some(wanted));
     Ok(())
 }
 
@@ -211,53 +209,67 @@ fn countdown(alloc: Global, calls: i32) -> Result<Code, Fail> {
     main_and_f(alloc, &words, &places, (3, 1), Vec::new(alloc))
 }
 
-#[test]
-fn calls_reach_depth_64_and_not_65(rt: HostRuntime) -> Result<(), Fail> {
-    let code = countdown(rt.alloc(), 62)?;
-    let (outcome, _) = ended(rt.alloc(), &code, &[], 1000)?.ok_or("not ended")?;
-    assert_eq!(rt; outcome.end, End::Normal(7));
-    let code = countdown(rt.alloc(), 63)?;
-    let (outcome, _) = ended(rt.alloc(), &code, &[], 1000)?.ok_or("not ended")?;
-    assert_eq!(rt; outcome.end, fault(FaultKind::CallTooDeep, 28));
-    Ok(())
+fn countdown_ends(alloc: Global, calls: i32) -> Result<Option<Told>, Fail> {
+    let code = countdown(alloc, calls)?;
+    ended(alloc, &code, 1000)
 }
 
 #[test]
-fn faults_have_their_places(rt: HostRuntime) -> Result<(), Fail> {
+fn calls_reach_depth_64_and_not_65(rt: HostRuntime) -> Result<(), Fail> {
+    let wanted = (End::Normal(7), None, [0, 0, 0]);
+    assert_eq!(rt; countdown_ends(rt.alloc(), 62)?, Some(wanted));
+    let wanted = (fault(FaultKind::CallTooDeep, 28), None, [0, 0, 0]);
+    assert_eq!(rt; countdown_ends(rt.alloc(), 63)?, Some(wanted));
+    Ok(())
+}
+
+// int main(){ return 1/0; }
+fn divides_by_zero(alloc: Global) -> Result<Code, Fail> {
     let quotient = Word::Binary(Operator::Div, Pos { line: 1, col: 20 });
     let words = [Word::Const(1), Word::Const(0), quotient, Word::Ret];
-    let places = spots(rt.alloc(), &[0, 1, 2, 1], 0, 0)?;
-    let code = main_alone(rt.alloc(), &words, places, Vec::new(rt.alloc()), &[])?;
-    let (outcome, _) = ended(rt.alloc(), &code, &[], 3)?.ok_or("not ended")?;
-    assert_eq!(rt; outcome.end, fault(FaultKind::ZeroDivisor, 20));
-    for index in [4, -1] {
-        let array = Array { base: 0, length: 4 };
-        let element = Word::Elem(array, Pos { line: 1, col: 31 });
-        let words = [Word::Const(index), element, Word::Ret];
-        let places = spots(rt.alloc(), &[0, 1, 1], 0, 0)?;
-        let code = main_alone(
-            rt.alloc(),
-            &words,
-            places,
-            Vec::new(rt.alloc()),
-            &[5, 6, 7, 8],
-        )?;
-        let (outcome, _) = ended(rt.alloc(), &code, &[], 2)?.ok_or("not ended")?;
-        assert_eq!(rt; outcome.end, fault(FaultKind::IndexOutOfRange, 31));
-        assert_eq!(rt; outcome.globals.as_slice(), [5, 6, 7, 8].as_slice());
-    }
+    let places = spots(alloc, &[0, 1, 2, 1], 0, 0)?;
+    main_alone(alloc, &words, places, Vec::new(alloc), &[])
+}
+
+#[test]
+fn a_division_by_zero_ends_the_run(rt: HostRuntime) -> Result<(), Fail> {
+    let code = divides_by_zero(rt.alloc())?;
+    let wanted = (fault(FaultKind::ZeroDivisor, 20), None, [0, 0, 0]);
+    assert_eq!(rt; ended(rt.alloc(), &code, 3)?, Some(wanted));
+    Ok(())
+}
+
+// int a[4] = {5, 6, 7, 8}; int main(){ return a[index]; }
+fn element_ends(alloc: Global, index: i32) -> Result<Option<Told>, Fail> {
+    let array = Array { base: 0, length: 4 };
+    let element = Word::Elem(array, Pos { line: 1, col: 31 });
+    let words = [Word::Const(index), element, Word::Ret];
+    let places = spots(alloc, &[0, 1, 1], 0, 0)?;
+    let code = main_alone(alloc, &words, places, Vec::new(alloc), &[5, 6, 7, 8])?;
+    ended(alloc, &code, 3)
+}
+
+#[test]
+fn an_index_out_of_range_ends_the_run(rt: HostRuntime) -> Result<(), Fail> {
+    let wanted = (End::Normal(8), Some(5), [0, 0, 0]);
+    assert_eq!(rt; element_ends(rt.alloc(), 3)?, Some(wanted));
+    let wanted = (fault(FaultKind::IndexOutOfRange, 31), Some(5), [0, 0, 0]);
+    assert_eq!(rt; element_ends(rt.alloc(), 4)?, Some(wanted));
+    assert_eq!(rt; element_ends(rt.alloc(), -1)?, Some(wanted));
     Ok(())
 }
 
 #[test]
 fn text_is_full_at_its_limit(rt: HostRuntime) -> Result<(), Fail> {
     let mut text = Vec::with_capacity(rt.alloc(), TEXT_LIMIT)?;
-    assert!(rt; print(&mut text, TEXT_LIMIT - 3, Output::Byte(65)));
-    assert!(rt; print(&mut text, TEXT_LIMIT - 3, Output::Number(5)));
-    assert_eq!(rt; text.as_slice(), b"A5\n".as_slice());
-    assert!(rt; !print(&mut text, TEXT_LIMIT - 3, Output::Byte(66)));
-    assert!(rt; !print(&mut text, TEXT_LIMIT - 4, Output::Number(5)));
-    assert!(rt; print(&mut text, TEXT_LIMIT - 4, Output::Byte(66)));
+    let printed = [
+        print(&mut text, TEXT_LIMIT - 3, Output::Byte(65)),
+        print(&mut text, TEXT_LIMIT - 3, Output::Number(5)),
+        print(&mut text, TEXT_LIMIT - 3, Output::Byte(66)),
+        print(&mut text, TEXT_LIMIT - 4, Output::Number(5)),
+        print(&mut text, TEXT_LIMIT - 4, Output::Byte(66)),
+    ];
+    assert_eq!(rt; printed, [true, true, false, false, true]);
     assert_eq!(rt; text.as_slice(), b"A5\nB".as_slice());
     Ok(())
 }
@@ -287,11 +299,8 @@ fn an_endless_print_fills_the_text(rt: HostRuntime) -> Result<(), Fail> {
     regions.push(Region::new(1, 12, Vec::new(rt.alloc()), Vec::new(rt.alloc())))?;
     let places = spots(rt.alloc(), &heights, 1, 7)?;
     let code = main_alone(rt.alloc(), &words, places, regions, &[])?;
-    let (outcome, counts) = ended(rt.alloc(), &code, &[], 10000000)?.ok_or("not ended")?;
-    assert_eq!(rt; outcome.text.len(), TEXT_LIMIT);
-    assert!(rt; outcome.text.as_slice().iter().all(|byte| *byte == 65));
-    assert_eq!(rt; outcome.end, fault(FaultKind::TextFull, 23));
-    assert_eq!(rt; counts.turns, 1048576);
+    let wanted = (fault(FaultKind::TextFull, 23), None, [1048576, 1048576, 1]);
+    assert_eq!(rt; ended(rt.alloc(), &code, 10000000)?, Some(wanted));
     Ok(())
 }
 
@@ -331,10 +340,8 @@ fn a_return_ends_the_call_that_opened_the_region(rt: HostRuntime) -> Result<(), 
     let call = Word::Call(1, NOWHERE);
     let main = [call, Word::SetPriv(0), call, Word::Ret, Word::Jump(3)];
     let code = returning(rt.alloc(), main, [0, 1, 0, 1, 1])?;
-    let (outcome, counts) = ended(rt.alloc(), &code, &[], 100)?.ok_or("not ended")?;
-    assert_eq!(rt; outcome.end, End::Normal(9));
-    assert_eq!(rt; counts.regions, 2);
-    assert_eq!(rt; counts.turns, 0);
+    let wanted = (End::Normal(9), None, [0, 0, 2]);
+    assert_eq!(rt; ended(rt.alloc(), &code, 100)?, Some(wanted));
     Ok(())
 }
 
@@ -369,15 +376,13 @@ fn no_region_opens_inside_a_region(rt: HostRuntime) -> Result<(), Fail> {
     regions.push(Region::new(6, 8, Vec::new(rt.alloc()), Vec::new(rt.alloc())))?;
     regions.push(Region::new(1, 3, Vec::new(rt.alloc()), Vec::new(rt.alloc())))?;
     let code = main_and_f(rt.alloc(), &words, &places, (5, 0), regions)?;
-    let (outcome, counts) = ended(rt.alloc(), &code, &[], 100)?.ok_or("not ended")?;
-    assert_eq!(rt; outcome.end, End::Normal(5));
-    assert_eq!(rt; counts.regions, 1);
+    let wanted = (End::Normal(5), None, [0, 0, 1]);
+    assert_eq!(rt; ended(rt.alloc(), &code, 100)?, Some(wanted));
     Ok(())
 }
 
 // A local that begins as 3 is carried and grows by 1 each turn, until it is 5.
-#[test]
-fn a_carried_word_comes_back(rt: HostRuntime) -> Result<(), Fail> {
+fn carrying(alloc: Global) -> Result<Code, Fail> {
     let words = [
         Word::Const(3),
         Word::SetPriv(0),
@@ -416,23 +421,27 @@ fn a_carried_word_comes_back(rt: HostRuntime) -> Result<(), Fail> {
         (1, None, 0),
         (1, None, 1),
     ];
-    let mut carried = Vec::new(rt.alloc());
+    let mut carried = Vec::new(alloc);
     carried.push(Carried {
         private: 0,
         cell: 0,
     })?;
-    let mut regions = Vec::new(rt.alloc());
-    regions.push(Region::new(3, 13, carried, Vec::new(rt.alloc())))?;
-    let code = main_and_f(rt.alloc(), &words, &places, (15, 0), regions)?;
-    let (outcome, counts) = ended(rt.alloc(), &code, &[], 100)?.ok_or("not ended")?;
-    assert_eq!(rt; outcome.end, End::Normal(5));
-    assert_eq!(rt; outcome.globals.len(), 0);
-    assert_eq!(rt; counts.turns, 1);
+    let mut regions = Vec::new(alloc);
+    regions.push(Region::new(3, 13, carried, Vec::new(alloc)))?;
+    main_and_f(alloc, &words, &places, (15, 0), regions)
+}
+
+#[test]
+fn a_carried_word_comes_back(rt: HostRuntime) -> Result<(), Fail> {
+    let code = carrying(rt.alloc())?;
+    let wanted = (End::Normal(5), None, [0, 1, 1]);
+    assert_eq!(rt; ended(rt.alloc(), &code, 100)?, Some(wanted));
     Ok(())
 }
 
-// How a search for the n-th region comes out: 0 at it, 1 ended before, 2 neither.
-fn search(alloc: Global, code: &Code, n: u64, steps: u64) -> Result<(u8, Option<Entry>), Fail> {
+// How a search for the n-th region comes out: 0 at it, 1 ended before, 2 neither; and the entry's words in the
+// store, private words, depth and printed bytes.
+fn search(alloc: Global, code: &Code, n: u64, steps: u64) -> Result<(u8, [usize; 4]), Fail> {
     let Ok(plain) = Plain::new(alloc, code, &[]) else {
         return Err(Fail::from("no machine"));
     };
@@ -440,31 +449,42 @@ fn search(alloc: Global, code: &Code, n: u64, steps: u64) -> Result<(u8, Option<
         return Err(Fail::from("regions are counted from 1"));
     }
     match plain.entry_at(alloc, n, steps)? {
-        Reached::At(_, entry) => Ok((0, Some(entry))),
-        Reached::Ended => Ok((1, None)),
-        Reached::More => Ok((2, None)),
+        Reached::At(_, entry) => Ok((
+            0,
+            [
+                entry.store.len(),
+                entry.locals.len(),
+                entry.depth,
+                entry.text_len,
+            ],
+        )),
+        Reached::Ended => Ok((1, [0; 4])),
+        Reached::More => Ok((2, [0; 4])),
     }
 }
 
 #[test]
 fn entries_of_two_turns(rt: HostRuntime) -> Result<(), Fail> {
     let code = two_turns(rt.alloc())?;
-    assert_eq!(rt; search(rt.alloc(), &code, 2, 26)?.0, 1);
-    assert_eq!(rt; search(rt.alloc(), &code, 2, 25)?.0, 2);
-    assert_eq!(rt; search(rt.alloc(), &code, 1, 0)?.0, 2);
-    let (found, entry) = search(rt.alloc(), &code, 1, 1)?;
-    assert_eq!(rt; found, 0);
-    let entry = entry.ok_or("no entry")?;
-    assert_eq!(rt; entry.store.len(), 65);
-    assert_eq!(rt; entry.locals.len(), 0);
-    assert_eq!(rt; entry.depth, 1);
-    assert_eq!(rt; entry.text_len, 0);
+    let rows = [
+        (2, 26, 1, [0; 4]),
+        (2, 25, 2, [0; 4]),
+        (1, 0, 2, [0; 4]),
+        (1, 1, 0, [65, 0, 1, 0]),
+    ];
+    for (n, steps, found, entry) in rows {
+        assert_eq!(rt; search(rt.alloc(), &code, n, steps)?, (found, entry));
+    }
     Ok(())
 }
 
+// What is told of a region that has ended: the exit, the words of its store, private words and printed bytes, and its
+// regions and turns.
+type RegionTold = (Exit, [usize; 3], [u64; 2]);
+
 // The end of the region that opened, run by itself: it goes on after so many words, and ends with one
 // more.
-fn by_itself(alloc: Global, code: &Code, at: &Open, steps: u64) -> Result<RegionEnd, Fail>
+fn by_itself(alloc: Global, code: &Code, at: &Open, steps: u64) -> Result<RegionTold, Fail>
     requires { at.now.code ≡ code.now }
 {
     let entry = at.entry(alloc)?;
@@ -479,31 +499,41 @@ fn by_itself(alloc: Global, code: &Code, at: &Open, steps: u64) -> Result<Region
     let Ok(end) = run.end() else {
         return Err(Fail::from("the region goes on"));
     };
-    Ok(end)
+    Ok((
+        end.exit,
+        [end.store.len(), end.locals.len(), end.text.len()],
+        [end.counts.regions, end.counts.turns],
+    ))
+}
+
+// The first region of a code, run by itself.
+fn first_region(alloc: Global, code: &Code, steps: u64) -> Result<RegionTold, Fail> {
+    let Ok(plain) = Plain::new(alloc, code, &[]) else {
+        return Err(Fail::from("no machine"));
+    };
+    match plain.to_region(1) {
+        Paused::At(open) => by_itself(alloc, code, &open, steps),
+        _ => Err(Fail::from("no region")),
+    }
 }
 
 // A whole turn takes 9 words, and the last test with `leave` 5.
 #[test]
 fn a_region_runs_by_itself(rt: HostRuntime) -> Result<(), Fail> {
     let code = two_turns(rt.alloc())?;
-    let Ok(plain) = Plain::new(rt.alloc(), &code, &[]) else {
-        return Err(Fail::from("no machine"));
-    };
-    match plain.to_region(1) {
-        Paused::At(open) => {
-            assert_eq!(rt; open.region(), 0);
-            let end = by_itself(rt.alloc(), &code, &open, 22)?;
-            assert_eq!(rt; end.exit, Exit::Left);
-            assert_eq!(rt;
-                [end.store.len(), end.locals.len(), end.text.len()],
-                [65, 0, 0]
-            );
-            assert_eq!(rt; end.store.first().copied(), Some(2));
-            assert_eq!(rt; [end.counts.regions, end.counts.turns], [1, 2]);
-            Ok(())
-        }
-        Paused::Ended(_, _) => Err(Fail::from("ended")),
-        Paused::More(_) => Err(Fail::from("no region")),
+    let wanted = (Exit::Left, [65, 0, 0], [1, 2]);
+    assert_eq!(rt; first_region(rt.alloc(), &code, 22)?, wanted);
+    Ok(())
+}
+
+// The region that the machine opens with its first word, asked for in two goes.
+fn region_of_the_second_go(plain: Plain<'_>) -> Option<u32> {
+    match plain.to_region(0) {
+        Paused::More(again) => match again.to_region(1) {
+            Paused::At(open) => Some(open.region()),
+            _ => None,
+        },
+        _ => None,
     }
 }
 
@@ -513,40 +543,21 @@ fn a_region_past_the_words_is_not_reached(rt: HostRuntime) -> Result<(), Fail> {
     let Ok(plain) = Plain::new(rt.alloc(), &code, &[]) else {
         return Err(Fail::from("no machine"));
     };
-    match plain.to_region(0) {
-        Paused::More(again) => match again.to_region(1) {
-            Paused::At(open) => {
-                assert_eq!(rt; open.region(), 0);
-                Ok(())
-            }
-            Paused::Ended(_, _) => Err(Fail::from("ended")),
-            Paused::More(_) => Err(Fail::from("no region")),
-        },
-        Paused::At(_) => Err(Fail::from("a region without a word")),
-        Paused::Ended(_, _) => Err(Fail::from("ended")),
-    }
+    assert_eq!(rt; region_of_the_second_go(plain), Some(0));
+    Ok(())
 }
 
 // The input is one word longer than its array, and there is no array.
 #[test]
 fn input_without_its_array_is_refused(rt: HostRuntime) -> Result<(), Fail> {
     let code = empty_main(rt.alloc())?;
-    match Plain::new(rt.alloc(), &code, &[1]) {
-        Ok(_) => Err(Fail::from("a machine")),
-        Err(refusal) => {
-            assert_eq!(rt; refusal, PlainError::InputUnfit);
-            Ok(())
-        }
-    }
+    let refusal = Plain::new(rt.alloc(), &code, &[1]).err();
+    assert_eq!(rt; refusal, Some(PlainError::InputUnfit));
+    Ok(())
 }
 
 // The run behind the region that opened, once that has ended by itself: so many words of it.
-fn behind(
-    alloc: Global,
-    code: &Code,
-    at: Open,
-    steps: u64,
-) -> Result<Option<(Outcome, Counts)>, Fail>
+fn behind(alloc: Global, code: &Code, at: Open, steps: u64) -> Result<Option<Told>, Fail>
     requires { at.code ≡ code.now }
 {
     let entry = at.entry(alloc)?;
@@ -556,30 +567,28 @@ fn behind(
         return Err(Fail::from("the region goes on"));
     };
     match at.resume(&end).run(steps) {
-        Ran::Ended(outcome, counts) => Ok(Some((outcome, counts))),
+        Ran::Ended(outcome, counts) => Ok(Some(told(&outcome, counts))),
         Ran::More(_) => Ok(None),
     }
 }
 
-// Behind the region `const 0` and `ret` are left.
+// Behind the first region of a code.
+fn behind_the_first(alloc: Global, code: &Code, steps: u64) -> Result<Option<Told>, Fail> {
+    let Ok(plain) = Plain::new(alloc, code, &[]) else {
+        return Err(Fail::from("no machine"));
+    };
+    match plain.to_region(1) {
+        Paused::At(at) => behind(alloc, code, at, steps),
+        _ => Err(Fail::from("no region")),
+    }
+}
+
+// Behind the region of two turns `const 0` and `ret` are left.
 #[test]
 fn a_run_goes_on_behind_its_region(rt: HostRuntime) -> Result<(), Fail> {
     let code = two_turns(rt.alloc())?;
-    for (steps, want) in [(1, false), (2, true)] {
-        let Ok(plain) = Plain::new(rt.alloc(), &code, &[]) else {
-            return Err(Fail::from("no machine"));
-        };
-        let Paused::At(at) = plain.to_region(1) else {
-            return Err(Fail::from("no region"));
-        };
-        let shown = behind(rt.alloc(), &code, at, steps)?;
-        assert_eq!(rt; shown.is_some(), want);
-        if let Some((outcome, counts)) = shown {
-            assert_eq!(rt; outcome.globals.as_slice(), [2].as_slice());
-            assert_eq!(rt; outcome.end, End::Normal(0));
-            assert_eq!(rt; counts.turns, 2);
-            assert_eq!(rt; counts.regions, 1);
-        }
-    }
+    assert_eq!(rt; behind_the_first(rt.alloc(), &code, 1)?, None);
+    let wanted = (End::Normal(0), Some(2), [0, 2, 1]);
+    assert_eq!(rt; behind_the_first(rt.alloc(), &code, 2)?, Some(wanted));
     Ok(())
 }

@@ -267,23 +267,54 @@ fn the_rules_refuse_each_flaw(rt: HostRuntime) -> Result<(), Fail> {
     Ok(())
 }
 
+// How many words, spots, functions, regions and globals a code has.
+fn counts_of(code: &Code) -> [usize; 5] {
+    [
+        code.words().len(),
+        code.spots().len(),
+        code.functions().len(),
+        code.regions().len(),
+        code.globals() as usize,
+    ]
+}
+
+// Entry, parameters and private words of the first function.
+fn first_function(code: &Code) -> Option<[u32; 3]> {
+    if code.functions().len() == 0 {
+        return None;
+    }
+    let function = code.function_at(0);
+    Some([function.entry(), function.parameters(), function.privates()])
+}
+
+// Where the first region begins and ends, how many words it carries, and the first that it copies.
+fn first_region(code: &Code) -> Option<(u32, u32, usize, Option<u32>)> {
+    if code.regions().len() == 0 {
+        return None;
+    }
+    let region = code.region_at(0);
+    Some((
+        region.start(),
+        region.exit(),
+        region.carried().len(),
+        region.copied().first().copied(),
+    ))
+}
+
 #[test]
 fn code_shows_its_parts(rt: HostRuntime) -> Result<(), Fail> {
     let code = code_of(rt.alloc(), Flaw::None)?.ok_or("valid")?;
-    assert_eq!(rt; code.words().len(), 22);
-    assert_eq!(rt; code.spots().len(), 22);
-    assert_eq!(rt; code.functions().len(), 1);
-    assert_eq!(rt; code.regions().len(), 1);
-    assert_eq!(rt; code.globals(), 1);
-    assert_eq!(rt; code.opening(), [7].as_slice());
+    assert_eq!(rt; counts_of(&code), [22, 22, 1, 1, 1]);
+    assert_eq!(rt; first_function(&code), Some([0, 0, 4]));
+    assert_eq!(rt; first_region(&code), Some((1, 20, 2, Some(2))));
+    Ok(())
+}
+
+#[test]
+fn code_shows_main_and_the_globals(rt: HostRuntime) -> Result<(), Fail> {
+    let code = code_of(rt.alloc(), Flaw::None)?.ok_or("valid")?;
     assert_eq!(rt; code.main().name(), b"main".as_slice());
-    assert_eq!(rt; code.function_at(0).privates(), 4);
-    assert_eq!(rt; code.function_at(0).parameters(), 0);
-    assert_eq!(rt; code.function_at(0).entry(), 0);
-    assert_eq!(rt; code.region_at(0).start(), 1);
-    assert_eq!(rt; code.region_at(0).exit(), 20);
-    assert_eq!(rt; code.region_at(0).carried().len(), 2);
-    assert_eq!(rt; code.region_at(0).copied(), [2, 3].as_slice());
+    assert_eq!(rt; code.opening(), [7].as_slice());
     assert_eq!(rt; code.input(), Some(Array { base: 0, length: 1 }));
     assert_eq!(rt; code.input_length(), Some(0));
     Ok(())
@@ -508,8 +539,7 @@ fn calls_take_their_arguments(rt: HostRuntime) -> Result<(), Fail> {
     let code = two_functions(alloc, &words, &[0, 1, 2, 1, 0, 1, 2, 1], functions)?.ok_or("valid")?;
     let mut local = Local::new(alloc, &code)?;
     let done = local.stretch(&code, 1000);
-    assert_eq!(rt; done.ask, Ask::Returns(4));
-    assert_eq!(rt; done.words, 7);
+    assert_eq!(rt; (done.ask, done.words), (Ask::Returns(4), 7));
     Ok(())
 }
 
@@ -533,38 +563,66 @@ fn the_sixty_fifth_call_is_a_fault(rt: HostRuntime) -> Result<(), Fail> {
         kind: FaultKind::CallTooDeep,
         pos: at(17),
     };
-    assert_eq!(rt; done.ask, Ask::Faults(fault));
-    assert_eq!(rt; done.words, 63);
+    assert_eq!(rt; (done.ask, done.words), (Ask::Faults(fault), 63));
     assert_eq!(rt; local.calls(), 64);
     Ok(())
 }
 
-// The first iterations of `pwhile(c<2) c=c+1;`, with the store in the test's hands.
-#[test]
-fn an_iteration_asks_for_its_words(rt: HostRuntime) -> Result<(), Fail> {
-    let alloc = rt.alloc();
-    let code = code_of(alloc, Flaw::None)?.ok_or("valid")?;
-    let mut local = Local::new(alloc, &code)?;
-    let opens = local.stretch(&code, 1000);
-    assert_eq!(rt; opens.words, 0);
-    assert_eq!(rt; opens.ask, Ask::Enters(0, 11));
-    let mut iteration = Local::new(alloc, &code)?;
-    iteration.copy_from(&local);
-    assert_eq!(rt; code.regions().len(), 1);
+// The words 5 and 6 at 2 and 1.
+fn words_at_two_and_one() -> [i32; 64] {
     let mut words = [0; 64];
     words[2] = 5;
     words[1] = 6;
-    local.leave_to(20, &words);
-    assert_eq!(rt; local.privates()[2], 5);
-    iteration.begin(&code, 0, 0, &words);
-    assert_eq!(rt; iteration.calls(), 1);
-    assert_eq!(rt; iteration.below(), 0);
-    assert_eq!(rt; iteration.privates()[2], 5);
-    assert_eq!(rt; iteration.privates()[1], 0);
-    let loads = iteration.stretch(&code, 1000);
-    assert_eq!(rt; loads.ask, Ask::Loads(0));
-    iteration.load(&code, loads.next, 1);
-    let more = iteration.stretch(&code, 2);
-    assert_eq!(rt; more.ask, Ask::Goes);
+    words
+}
+
+// Main of `pwhile(c<2) c=c+1;` opens the region, and is left behind it.
+#[test]
+fn a_region_is_opened_and_left(rt: HostRuntime) -> Result<(), Fail> {
+    let code = code_of(rt.alloc(), Flaw::None)?.ok_or("valid")?;
+    let mut local = Local::new(rt.alloc(), &code)?;
+    assert_eq!(rt; local.stretch(&code, 1000).ask, Ask::Enters(0, 11));
+    let mut copy = Local::new(rt.alloc(), &code)?;
+    copy.copy_from(&local);
+    copy.leave_to(20, &words_at_two_and_one());
+    assert_eq!(rt; copy.privates()[2], 5);
+    Ok(())
+}
+
+// What an iteration of it asks first, with its calls, the calls below it and two of its private words.
+fn iteration_asks(alloc: Global, code: &Code) -> Result<(Ask, [usize; 2], [i32; 2]), Fail> {
+    if code.regions().len() == 0 {
+        return Err(Fail::from("no region"));
+    }
+    let mut iteration = Local::new(alloc, code)?;
+    iteration.begin(code, 0, 0, &words_at_two_and_one());
+    let calls = [iteration.calls(), iteration.below()];
+    let words = [iteration.privates()[1], iteration.privates()[2]];
+    Ok((iteration.stretch(code, 1000).ask, calls, words))
+}
+
+// What it asks once it has the word that it asked for, after two words more.
+fn iteration_goes_on(alloc: Global, code: &Code) -> Result<Ask, Fail> {
+    if code.regions().len() == 0 {
+        return Err(Fail::from("no region"));
+    }
+    let mut iteration = Local::new(alloc, code)?;
+    iteration.begin(code, 0, 0, &[0; 64]);
+    let loads = iteration.stretch(code, 1000);
+    match loads.ask {
+        Ask::Loads(_) => {
+            iteration.load(code, loads.next, 1);
+            Ok(iteration.stretch(code, 2).ask)
+        }
+        ask => Ok(ask),
+    }
+}
+
+#[test]
+fn an_iteration_asks_for_its_words(rt: HostRuntime) -> Result<(), Fail> {
+    let code = code_of(rt.alloc(), Flaw::None)?.ok_or("valid")?;
+    let wanted = (Ask::Loads(0), [1, 0], [0, 5]);
+    assert_eq!(rt; iteration_asks(rt.alloc(), &code)?, wanted);
+    assert_eq!(rt; iteration_goes_on(rt.alloc(), &code)?, Ask::Goes);
     Ok(())
 }
