@@ -313,7 +313,8 @@ fn code_shows_its_parts(rt: HostRuntime) -> Result<(), Fail> {
 #[test]
 fn code_shows_main_and_the_globals(rt: HostRuntime) -> Result<(), Fail> {
     let code = code_of(rt.alloc(), Flaw::None)?.ok_or("valid")?;
-    assert_eq!(rt; code.main().name(), b"main".as_slice());
+    assert_eq!(rt; code.functions().len(), 1);
+    assert_eq!(rt; code.function_at(0).name(), b"main".as_slice());
     assert_eq!(rt; code.opening(), [7].as_slice());
     assert_eq!(rt; code.input(), Some(Array { base: 0, length: 1 }));
     assert_eq!(rt; code.input_length(), Some(0));
