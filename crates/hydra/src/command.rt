@@ -1,11 +1,15 @@
 // What each command does.
 
-ghost use Rattle.std.specs.Prelude.{◌≤◌};
+ghost use Rattle.std.specs.Prelude.{◌≤◌, ◌≢◌};
+ghost use Rattle.hx_answer.specs.declared.status.Status.TheVariants as status;
 
-use crate::answer::{answer_check, answer_plain, answer_run, answer_words};
 use crate::files::{read_input, read_source};
 use crate::request::{Paths, Request, read_words};
-use crate::status::{Status, tell_command_line, tell_read_failed, tell_refusal};
+use clap::error::{Error, ErrorKind};
+use hx_answer::{
+    Status, answer_check, answer_plain, answer_run, answer_words, tell_memory, tell_read_failed,
+    tell_refusal, tell_write_failed,
+};
 use hx_run::parse_input;
 use std::convert::AsStr;
 use std::io::Write;
@@ -87,6 +91,23 @@ fn list_file<R: Files + AllocGlobal, W: Write, E: Write>(
     match read_source(rt, path) {
         Ok(source) => answer_words(rt.alloc(), &source, out, err),
         Err(_) => tell_read_failed(err),
+    }
+}
+
+// Help goes to the output, and what is wrong with a command line to the error stream.
+fn tell_command_line<W: Write, E: Write>(error: &Error, out: &mut W, err: &mut E) -> Status
+    ensures { result ≢ status.Fault }
+{
+    if error.kind() == ErrorKind::OutOfMemory {
+        return tell_memory(err);
+    }
+    if error.use_stderr() {
+        let _ = write!(err, "{error}");
+        return Status::Refused;
+    }
+    match write!(out, "{error}") {
+        Ok(()) => Status::Done,
+        Err(_) => tell_write_failed(err),
     }
 }
 

@@ -1,11 +1,9 @@
 //! The program `hydra`: a command line over files and streams.
 #![tactic(auto)]
 
-mod answer;
 mod command;
 mod files;
 mod request;
-mod status;
 #[cfg(test)]
 mod tests;
 

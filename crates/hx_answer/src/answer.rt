@@ -1,7 +1,6 @@
 // What each command does with the bytes that were read.
 
-ghost use Rattle.std.specs.Prelude.{◌≡◌, ◌≢◌};
-ghost use Rattle.hydra.specs.Answers.{RunAnswer, PlainAnswer, CheckAnswer, WordsAnswer};
+ghost use Rattle.hx_answer.specs.Answers.{RunAnswer, PlainAnswer, CheckAnswer, WordsAnswer};
 
 use crate::status::{Status, show_finish, show_text, tell_memory, tell_not_ended, tell_refusal};
 use hx_lower::listing;

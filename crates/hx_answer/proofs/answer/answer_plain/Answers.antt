@@ -1,7 +1,7 @@
 use Rattle.std.proofs.Common.{subst}
 use Rattle.hx_run.specs.Headline.{IsPlainRanOf}
-use Rattle.hydra.proofs.Answers.{plain_told}
-use Rattle.hydra.proofs.answer.answer_plain.Goals as goal
+use Rattle.hx_answer.proofs.Answers.{plain_told}
+use Rattle.hx_answer.proofs.answer.answer_plain.Goals as goal
 
 pub returns-in-Ok-Ended : goal.returns-in-Ok-Ended
 returns-in-Ok-Ended g c =

@@ -10,9 +10,9 @@ use Rattle.hx_run.specs.declared.refusal.Refusal.TheVariants as refusal
 use Rattle.hx_run.specs.declared.running.PlainRan.TheVariants.{More}
 use Rattle.hx_run.specs.Refusals.{is_memory, RefusesSource}
 use Rattle.hx_run.specs.Headline.{AreInRange, IsCodeOf, IsFinishOf, IsPlainRanOf, RefusesRun}
-use Rattle.hydra.specs.declared.status.Status.{Status}
-use Rattle.hydra.specs.declared.status.Status.TheVariants as status
-use Rattle.hydra.specs.Statuses.{status_of_end}
+use Rattle.hx_answer.specs.declared.status.Status.{Status}
+use Rattle.hx_answer.specs.declared.status.Status.TheVariants as status
+use Rattle.hx_answer.specs.Statuses.{status_of_end}
 
 -- the settings of so many workers, with the capacities that no option names
 abbrev pub settings_for : ℕ → Settings

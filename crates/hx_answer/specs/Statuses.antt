@@ -4,8 +4,8 @@ use Rattle.hx_tree.specs.declared.outcome.End.{End}
 use Rattle.hx_tree.specs.declared.outcome.End.TheVariants.{Normal, Fault}
 use Rattle.hx_run.specs.declared.refusal.Refusal.{Refusal}
 use Rattle.hx_run.specs.Refusals.{is_memory}
-use Rattle.hydra.specs.declared.status.Status.{Status}
-use Rattle.hydra.specs.declared.status.Status.TheVariants as status
+use Rattle.hx_answer.specs.declared.status.Status.{Status}
+use Rattle.hx_answer.specs.declared.status.Status.TheVariants as status
 
 abbrev pub exit_status : Status → ℕ
 exit_status status.Done = 0

@@ -1,5 +1,5 @@
-use Rattle.hydra.proofs.Answers.{run_told}
-use Rattle.hydra.proofs.answer.answer_run.Goals as goal
+use Rattle.hx_answer.proofs.Answers.{run_told}
+use Rattle.hx_answer.proofs.answer.answer_run.Goals as goal
 
 pub returns-in-Ok : goal.returns-in-Ok
 returns-in-Ok g c =

@@ -1,11 +1,10 @@
 // How a command ends, and what is told of it on the error stream.
 
-ghost use Rattle.std.specs.Prelude.{◌≡◌, ◌≢◌};
-ghost use Rattle.hydra.specs.Answers.{ShowsFinish, ShowsText};
-ghost use Rattle.hydra.specs.Statuses.{exit_status, status_of_refusal};
-ghost use Rattle.hydra.specs.declared.status.Status.TheVariants as status;
+ghost use Rattle.std.specs.Prelude.{◌≡◌};
+ghost use Rattle.hx_answer.specs.Answers.{ShowsFinish, ShowsText};
+ghost use Rattle.hx_answer.specs.Statuses.{exit_status, status_of_refusal};
+ghost use Rattle.hx_answer.specs.declared.status.Status.TheVariants as status;
 
-use clap::error::{Error, ErrorKind};
 use hx_run::Refusal;
 use hx_tree::outcome::{End, Finish};
 use std::io::Write;
@@ -46,7 +45,7 @@ fn tell<E: Write>(err: &mut E, line: &[u8]) {
 }
 
 /// A file that doesn't open or can't be read.
-pub(crate) fn tell_read_failed<E: Write>(err: &mut E) -> Status
+pub fn tell_read_failed<E: Write>(err: &mut E) -> Status
     ensures { result ≡ status.Device }
 {
     tell(err, b"hydra: read failed\n");
@@ -54,7 +53,7 @@ pub(crate) fn tell_read_failed<E: Write>(err: &mut E) -> Status
 }
 
 /// An output that takes no more.
-pub(crate) fn tell_write_failed<E: Write>(err: &mut E) -> Status
+pub fn tell_write_failed<E: Write>(err: &mut E) -> Status
     ensures { result ≡ status.Device }
 {
     tell(err, b"hydra: write failed\n");
@@ -62,7 +61,7 @@ pub(crate) fn tell_write_failed<E: Write>(err: &mut E) -> Status
 }
 
 /// Want of memory.
-pub(crate) fn tell_memory<E: Write>(err: &mut E) -> Status
+pub fn tell_memory<E: Write>(err: &mut E) -> Status
     ensures { result ≡ status.Memory }
 {
     tell(err, b"hydra: memory\n");
@@ -78,7 +77,7 @@ pub(crate) fn tell_not_ended<E: Write>(err: &mut E, steps: u64) -> Status
 }
 
 /// A refusal, with its number and, where it has one, its place.
-pub(crate) fn tell_refusal<E: Write>(err: &mut E, refusal: &Refusal) -> Status
+pub fn tell_refusal<E: Write>(err: &mut E, refusal: &Refusal) -> Status
     ensures { result ≡ status_of_refusal refusal.now }
 {
     if refusal.is_memory() {
@@ -90,27 +89,6 @@ pub(crate) fn tell_refusal<E: Write>(err: &mut E, refusal: &Refusal) -> Status
         None => writeln!(err, "hydra: refused {number}"),
     };
     Status::Refused
-}
-
-/// Help goes to the output, and what is wrong with a command line to the error stream.
-pub(crate) fn tell_command_line<W: Write, E: Write>(
-    error: &Error,
-    out: &mut W,
-    err: &mut E,
-) -> Status
-    ensures { result ≢ status.Fault }
-{
-    if error.kind() == ErrorKind::OutOfMemory {
-        return tell_memory(err);
-    }
-    if error.use_stderr() {
-        let _ = write!(err, "{error}");
-        return Status::Refused;
-    }
-    match write!(out, "{error}") {
-        Ok(()) => Status::Done,
-        Err(_) => tell_write_failed(err),
-    }
 }
 
 /// Text for the output.

@@ -4,10 +4,10 @@ use Rattle.hx_tree.specs.declared.outcome.End.{End}
 use Rattle.hx_tree.specs.declared.outcome.End.TheVariants.{Normal, Fault}
 use Rattle.hx_tree.specs.declared.outcome.Finish.{Finish}
 use Rattle.hx_run.specs.Headline.{IsFinishOf}
-use Rattle.hydra.specs.declared.status.Status.{Status}
-use Rattle.hydra.specs.declared.status.Status.TheVariants as status
-use Rattle.hydra.specs.Statuses.{status_of_end}
-use Rattle.hydra.specs.Answers.{ShowsFinish, RunAnswer, PlainAnswer}
+use Rattle.hx_answer.specs.declared.status.Status.{Status}
+use Rattle.hx_answer.specs.declared.status.Status.TheVariants as status
+use Rattle.hx_answer.specs.Statuses.{status_of_end}
+use Rattle.hx_answer.specs.Answers.{ShowsFinish, RunAnswer, PlainAnswer}
 
 no_end_is_refused : (e : End) → status.Refused ≡ status_of_end e → ⊥
 no_end_is_refused (Normal returned) same = absurd cc
