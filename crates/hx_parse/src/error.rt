@@ -1,6 +1,6 @@
 // Why tokens are refused.
 
-ghost use Rattle.std.specs.Prelude.{◌≡◌};
+ghost use Rattle.std.specs.Prelude.{◌≡◌, Ok, Err, MatchResult};
 ghost use Rattle.hx_parse.specs.Answer.{number_of, pos_of};
 ghost use Rattle.hx_parse.specs.declared.error.ParseError.TheVariants.{Memory};
 
@@ -60,5 +60,18 @@ impl<T: Drop> From<AllocFailed<T>> for ParseError {
 
     fn from(_e: AllocFailed<T>) -> ParseError {
         ParseError::Memory
+    }
+}
+
+/// Both values, or the error in place of the second.
+pub(crate) fn both<T: Drop, U>(
+    first: T,
+    second: Result<U, ParseError>,
+) -> Result<(T, U), ParseError>
+    ensures { MatchResult result (λ both. (both.0 ≡ first) × (second ≡ Ok both.1)) (λ e. second ≡ Err e) }
+{
+    match second {
+        Ok(second) => Ok((first, second)),
+        Err(error) => Err(error),
     }
 }

@@ -1,12 +1,12 @@
 // Declarations of locals, assignments and statements.
 
-ghost use Rattle.std.specs.Prelude.{◌≡◌, ◌<◌, ◌≤◌, map, length, option_map, OnOk};
+ghost use Rattle.std.specs.Prelude.{◌≡◌, ◌<◌, ◌≤◌, map, length, option_map, OnOk, Some, None};
 ghost use Rattle.hx_tree.specs.declared.token.Mark.TheVariants as mark;
 ghost use Rattle.hx_tree.specs.View.{name_of, expr_of, local_of, place_of, assignment_of, init_of, for_clauses_of, stmt_of, part_of};
-ghost use Rattle.hx_grammar.specs.Reading.{expr_at, in_parens_at, optional_at, local_at, locals_at, place_at, update_at, updated_at, assigned_at, assignment_at, init_at, for_clauses_at, part_at, parts_at, named_stmt_at, print_at, emit_at, break_at, continue_at, return_at, if_at, while_at, for_at, marked_stmt_at, stmt_with, stmt_at};
-ghost use Rattle.hx_parse.specs.Gives.{Gives, name_in};
+ghost use Rattle.hx_grammar.specs.Reading.{expr_at, in_parens_at, optional_at, local_at, locals_at, place_at, update_at, updated_at, assigned_at, assignment_at, init_turn, init_at, for_clauses_at, part_at, parts_at, named_stmt_turn, named_stmt_at, print_at, emit_at, break_at, continue_at, return_at, if_at, else_at, while_at, for_at, marked_stmt_at, stmt_with, stmt_at};
+ghost use Rattle.hx_parse.specs.Gives.{Gives, clauses_from, name_in};
 
-use crate::error::ParseError;
+use crate::error::{ParseError, both};
 use crate::operators::updating_of;
 use crate::parser::Parser;
 use hx_lex::Token;
@@ -172,12 +172,29 @@ impl<'t, 's> Parser<'t, 's> {
     {
         let name = self.name_in(token)?;
         if self.take(Mark::OpenParen) {
-            let arguments = self.call_arguments(room)?;
-            self.expect(Mark::Semicolon)?;
-            return Ok(Stmt::CallStatement(name, arguments));
+            self.call_statement(name, room)
+        } else {
+            self.assign_statement(name, room)
         }
-        let assignment = self.assigned(name, room)?;
+    }
+
+    /// A call as a statement, where the name and the `(` are taken.
+    fn call_statement(&mut self, name: Name, room: usize) -> Result<Stmt, ParseError>
+        ensures read { Gives stmt_of result self.new (named_stmt_turn room (name_of name) self.old (Some self.old)) }
+        ensures shorter { OnOk result (length self.new < length self.old) }
+    {
+        let arguments = self.call_arguments(room)?;
         self.expect(Mark::Semicolon)?;
+        Ok(Stmt::CallStatement(name, arguments))
+    }
+
+    /// An assignment as a statement, where the name that it begins with is taken.
+    fn assign_statement(&mut self, name: Name, room: usize) -> Result<Stmt, ParseError>
+        ensures read { Gives stmt_of result self.new (named_stmt_turn room (name_of name) self.old None) }
+        ensures shorter { OnOk result (length self.new < length self.old) }
+    {
+        let assignment = self.assigned(name, room)?;
+        let (assignment, _) = both(assignment, self.expect(Mark::Semicolon))?;
         Ok(Stmt::Assign(assignment))
     }
 
@@ -243,8 +260,16 @@ impl<'t, 's> Parser<'t, 's> {
     {
         self.expect(Mark::OpenParen)?;
         let init = self.init(room)?;
-        let test = self.optional_expression(room)?;
-        let step = self.step(room)?;
+        self.clauses_behind(init, room)
+    }
+
+    /// What stands in the parentheses of a `for` behind what it begins with, with the `)`.
+    fn clauses_behind(&mut self, init: Init, room: usize) -> Result<ForClauses, ParseError>
+        ensures read { Gives for_clauses_of result self.new (clauses_from room (init_of init) self.old) }
+        ensures shorter { OnOk result (length self.new < length self.old) }
+    {
+        let (init, test) = both(init, self.optional_expression(room))?;
+        let ((init, test), step) = both((init, test), self.step(room))?;
         Ok(ForClauses { init, test, step })
     }
 
@@ -255,15 +280,31 @@ impl<'t, 's> Parser<'t, 's> {
         ensures shorter { OnOk result (length self.new < length self.old) }
     {
         if self.take(Mark::Semicolon) {
-            return Ok(Init::Nothing);
+            Ok(Init::Nothing)
+        } else if self.take(Mark::Int) {
+            self.init_locals(room)
+        } else {
+            self.init_assignment(room)
         }
-        if self.take(Mark::Int) {
-            let locals = self.locals(room)?;
-            self.expect(Mark::Semicolon)?;
-            return Ok(Init::Locals(locals));
-        }
-        let assignment = self.assignment(room)?;
+    }
+
+    /// The locals that a `for` begins with, and the `;` behind them, where the `int` is taken.
+    fn init_locals(&mut self, room: usize) -> Result<Init, ParseError>
+        ensures read { Gives init_of result self.new (init_turn room self.old None (Some self.old)) }
+        ensures shorter { OnOk result (length self.new < length self.old) }
+    {
+        let locals = self.locals(room)?;
         self.expect(Mark::Semicolon)?;
+        Ok(Init::Locals(locals))
+    }
+
+    /// The assignment that a `for` begins with, and the `;` behind it.
+    fn init_assignment(&mut self, room: usize) -> Result<Init, ParseError>
+        ensures read { Gives init_of result self.new (init_turn room self.old None None) }
+        ensures shorter { OnOk result (length self.new < length self.old) }
+    {
+        let assignment = self.assignment(room)?;
+        let (assignment, _) = both(assignment, self.expect(Mark::Semicolon))?;
         Ok(Init::Assign(assignment))
     }
 
@@ -277,7 +318,7 @@ impl<'t, 's> Parser<'t, 's> {
             return Ok(None);
         }
         let assignment = self.assignment(room)?;
-        self.expect(Mark::CloseParen)?;
+        let (assignment, _) = both(assignment, self.expect(Mark::CloseParen))?;
         Ok(Some(assignment))
     }
 
@@ -372,15 +413,30 @@ impl<'t, 's> Parser<'t, 's> {
 
     /// What stands behind an `if`.
     #[cycle(stmt)]
-    #[tactic(auto, unfolding(hx_grammar::specs::Reading::if_at, hx_grammar::specs::Reading::else_at), using(crate::proofs::Marks::behind_shorter))]
+    #[tactic(auto, unfolding(hx_grammar::specs::Reading::if_at))]
     fn choice(&mut self, room: usize) -> Result<Stmt, ParseError>
         ensures read { Gives stmt_of result self.new (if_at room (stmt_at room) self.old) }
         ensures shorter { OnOk result (length self.new ≤ length self.old) }
     {
         let test = self.in_parens(room)?;
-        let body = Box::new(self.alloc, self.statement(room)?)?;
+        let body = self.body(room)?;
+        self.choice_behind(test, body, room)
+    }
+
+    /// An `if` whose `else` is read, if it is there.
+    #[cycle(stmt)]
+    #[tactic(auto, unfolding(hx_grammar::specs::Reading::else_at), using(crate::proofs::Marks::behind_shorter))]
+    fn choice_behind(
+        &mut self,
+        test: Expr,
+        body: Box<Stmt>,
+        room: usize,
+    ) -> Result<Stmt, ParseError>
+        ensures read { Gives stmt_of result self.new (else_at (stmt_at room) (expr_of test) (stmt_of body.value) self.old) }
+        ensures shorter { OnOk result (length self.new ≤ length self.old) }
+    {
         if self.take(Mark::Else) {
-            let other = Box::new(self.alloc, self.statement(room)?)?;
+            let other = self.body(room)?;
             return Ok(Stmt::IfElse(test, body, other));
         }
         Ok(Stmt::If(test, body))
@@ -394,7 +450,7 @@ impl<'t, 's> Parser<'t, 's> {
         ensures shorter { OnOk result (length self.new ≤ length self.old) }
     {
         let test = self.in_parens(room)?;
-        let body = Box::new(self.alloc, self.statement(room)?)?;
+        let body = self.body(room)?;
         Ok(Stmt::While(is_marked, test, body))
     }
 
@@ -406,7 +462,17 @@ impl<'t, 's> Parser<'t, 's> {
         ensures shorter { OnOk result (length self.new ≤ length self.old) }
     {
         let clauses = self.for_clauses(room)?;
-        let body = Box::new(self.alloc, self.statement(room)?)?;
+        let (clauses, body) = both(clauses, self.body(room))?;
         Ok(Stmt::For(is_marked, clauses, body))
+    }
+
+    /// A statement inside another one, of height at most `room`.
+    #[cycle(stmt)]
+    fn body(&mut self, room: usize) -> Result<Box<Stmt>, ParseError>
+        ensures read { Gives (λ b. stmt_of b.value) result self.new (stmt_at room self.old) }
+        ensures shorter { OnOk result (length self.new < length self.old) }
+    {
+        let statement = self.statement(room)?;
+        Ok(Box::new(self.alloc, statement)?)
     }
 }

@@ -21,13 +21,19 @@ abbrev pub decreases-part : goal.decreases-part
 decreases-part l = 6 * l.room + 1
 
 abbrev pub decreases-choice : goal.decreases-choice
-decreases-choice l = 6 * l.room + 1
+decreases-choice l = 6 * l.room + 3
+
+abbrev pub decreases-choice_behind : goal.decreases-choice_behind
+decreases-choice_behind l = 6 * l.room + 2
 
 abbrev pub decreases-while_loop : goal.decreases-while_loop
-decreases-while_loop l = 6 * l.room + 1
+decreases-while_loop l = 6 * l.room + 2
 
 abbrev pub decreases-for_loop : goal.decreases-for_loop
-decreases-for_loop l = 6 * l.room + 1
+decreases-for_loop l = 6 * l.room + 2
+
+abbrev pub decreases-body : goal.decreases-body
+decreases-body l = 6 * l.room + 1
 
 abbrev pub invariant-parts-loop-self : goal.invariant-parts-loop-self
 invariant-parts-loop-self l = record {
