@@ -1,10 +1,9 @@
 -- What a function of the parser returns, against a reading of the tokens.
-use Rattle.std.specs.Prelude.{◌≡◌, ℕ, List, Result, Ok, Err}
+use Rattle.std.specs.Prelude.{◌≡◌, List, Result, Ok, Err}
 use Rattle.hx_tree.specs.Tree as tree
 use Rattle.hx_tree.specs.Lexis as lexis
 use Rattle.hx_lex.specs.declared.token.Token.{Token}
-use Rattle.hx_tree.specs.declared.token.Mark.TheVariants as mark
-use Rattle.hx_grammar.specs.Reading.{Reading, Reader, Refusal, ◌>>=◌, optional_at, expr_at, assignment_at}
+use Rattle.hx_grammar.specs.Reading.{Reading, Refusal}
 use Rattle.hx_grammar.specs.Reading as reading
 use Rattle.hx_parse.specs.declared.error.ParseError.{ParseError}
 use Rattle.hx_parse.specs.declared.error.ParseError.TheVariants.{Syntax, TooDeep, Memory}
@@ -36,7 +35,3 @@ itself x = x
 -- the name in a token
 abbrev pub name_in : Token → tree.Name
 name_in t = record { text = t.text.now; pos = t.pos }
-
--- what stands in the parentheses of a `for` behind what it begins with, and the `)`
-abbrev pub clauses_from : ℕ → tree.Init → Reader tree.ForClauses
-clauses_from room i tokens = optional_at mark.Semicolon (expr_at room 10) tokens >>= λ e. optional_at mark.CloseParen (assignment_at room) e.1 >>= λ s. Ok (record { init = i; test = e.0; step = s.0 }, s.1)

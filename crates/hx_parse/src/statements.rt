@@ -4,7 +4,7 @@ ghost use Rattle.std.specs.Prelude.{◌≡◌, ◌<◌, ◌≤◌, map, length, 
 ghost use Rattle.hx_tree.specs.declared.token.Mark.TheVariants as mark;
 ghost use Rattle.hx_tree.specs.View.{name_of, expr_of, local_of, place_of, assignment_of, init_of, for_clauses_of, stmt_of, part_of};
 ghost use Rattle.hx_grammar.specs.Reading.{expr_at, in_parens_at, optional_at, local_at, locals_at, place_at, update_at, updated_at, assigned_at, assignment_at, init_turn, init_at, for_clauses_at, part_at, parts_at, named_stmt_turn, named_stmt_at, print_at, emit_at, break_at, continue_at, return_at, if_at, else_at, while_at, for_at, marked_stmt_at, stmt_with, stmt_at};
-ghost use Rattle.hx_parse.specs.Gives.{Gives, clauses_from, name_in};
+ghost use Rattle.hx_parse.specs.Gives.{Gives, name_in};
 
 use crate::error::{ParseError, both};
 use crate::operators::updating_of;
@@ -84,8 +84,8 @@ impl<'t, 's> Parser<'t, 's> {
         ensures shorter { OnOk result (length self.new ≤ length self.old) }
     {
         if self.take(Mark::OpenBracket) {
-            let index = self.expression(room)?;
-            self.expect(Mark::CloseBracket)?;
+            let place = both(name, self.expression(room))?;
+            let ((name, index), _) = both(place, self.expect(Mark::CloseBracket))?;
             return Ok(Place::Element(name, index));
         }
         Ok(Place::Variable(name))
@@ -121,14 +121,14 @@ impl<'t, 's> Parser<'t, 's> {
     {
         match mark {
             Mark::Assign => {
-                let value = self.expression(room)?;
+                let (target, value) = both(target, self.expression(room))?;
                 Ok(Assignment::Set(target, value))
             }
             Mark::Increment => Ok(Assignment::Increment(target)),
             Mark::Decrement => Ok(Assignment::Decrement(target)),
             _ => match updating_of(mark) {
                 Some(op) => {
-                    let value = self.expression(room)?;
+                    let (target, value) = both(target, self.expression(room))?;
                     Ok(Assignment::Update(target, op, pos, value))
                 }
                 None => Err(ParseError::Syntax(pos)),
@@ -146,7 +146,7 @@ impl<'t, 's> Parser<'t, 's> {
     {
         self.expect(Mark::OpenParen)?;
         let inner = self.expression(room)?;
-        self.expect(Mark::CloseParen)?;
+        let (inner, _) = both(inner, self.expect(Mark::CloseParen))?;
         Ok(inner)
     }
 
@@ -160,7 +160,7 @@ impl<'t, 's> Parser<'t, 's> {
             return Ok(None);
         }
         let value = self.expression(room)?;
-        self.expect(Mark::Semicolon)?;
+        let (value, _) = both(value, self.expect(Mark::Semicolon))?;
         Ok(Some(value))
     }
 
@@ -183,8 +183,8 @@ impl<'t, 's> Parser<'t, 's> {
         ensures read { Gives stmt_of result self.new (named_stmt_turn room (name_of name) self.old (Some self.old)) }
         ensures shorter { OnOk result (length self.new < length self.old) }
     {
-        let arguments = self.call_arguments(room)?;
-        self.expect(Mark::Semicolon)?;
+        let call = both(name, self.call_arguments(room))?;
+        let ((name, arguments), _) = both(call, self.expect(Mark::Semicolon))?;
         Ok(Stmt::CallStatement(name, arguments))
     }
 
@@ -205,7 +205,7 @@ impl<'t, 's> Parser<'t, 's> {
         ensures shorter { OnOk result (length self.new ≤ length self.old) }
     {
         let value = self.in_parens(room)?;
-        self.expect(Mark::Semicolon)?;
+        let (value, _) = both(value, self.expect(Mark::Semicolon))?;
         Ok(Stmt::Print(pos, value))
     }
 
@@ -216,7 +216,7 @@ impl<'t, 's> Parser<'t, 's> {
         ensures shorter { OnOk result (length self.new ≤ length self.old) }
     {
         let value = self.in_parens(room)?;
-        self.expect(Mark::Semicolon)?;
+        let (value, _) = both(value, self.expect(Mark::Semicolon))?;
         Ok(Stmt::Emit(pos, value))
     }
 
@@ -260,16 +260,8 @@ impl<'t, 's> Parser<'t, 's> {
     {
         self.expect(Mark::OpenParen)?;
         let init = self.init(room)?;
-        self.clauses_behind(init, room)
-    }
-
-    /// What stands in the parentheses of a `for` behind what it begins with, with the `)`.
-    fn clauses_behind(&mut self, init: Init, room: usize) -> Result<ForClauses, ParseError>
-        ensures read { Gives for_clauses_of result self.new (clauses_from room (init_of init) self.old) }
-        ensures shorter { OnOk result (length self.new < length self.old) }
-    {
-        let (init, test) = both(init, self.optional_expression(room))?;
-        let ((init, test), step) = both((init, test), self.step(room))?;
+        let init_and_test = both(init, self.optional_expression(room))?;
+        let ((init, test), step) = both(init_and_test, self.step(room))?;
         Ok(ForClauses { init, test, step })
     }
 
@@ -419,7 +411,7 @@ impl<'t, 's> Parser<'t, 's> {
         ensures shorter { OnOk result (length self.new ≤ length self.old) }
     {
         let test = self.in_parens(room)?;
-        let body = self.body(room)?;
+        let (test, body) = both(test, self.body(room))?;
         self.choice_behind(test, body, room)
     }
 
@@ -436,7 +428,7 @@ impl<'t, 's> Parser<'t, 's> {
         ensures shorter { OnOk result (length self.new ≤ length self.old) }
     {
         if self.take(Mark::Else) {
-            let other = self.body(room)?;
+            let ((test, body), other) = both((test, body), self.body(room))?;
             return Ok(Stmt::IfElse(test, body, other));
         }
         Ok(Stmt::If(test, body))
@@ -450,7 +442,7 @@ impl<'t, 's> Parser<'t, 's> {
         ensures shorter { OnOk result (length self.new ≤ length self.old) }
     {
         let test = self.in_parens(room)?;
-        let body = self.body(room)?;
+        let (test, body) = both(test, self.body(room))?;
         Ok(Stmt::While(is_marked, test, body))
     }
 
