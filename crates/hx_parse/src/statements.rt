@@ -101,8 +101,7 @@ impl<'t, 's> Parser<'t, 's> {
             None => Err(ParseError::Syntax(self.place())),
             Some(token) => match token.kind {
                 Kind::Mark(mark) => self.update(target, mark, token.pos, room),
-                Kind::Name => Err(ParseError::Syntax(token.pos)),
-                Kind::Number(_) => Err(ParseError::Syntax(token.pos)),
+                Kind::Name | Kind::Number(_) => Err(ParseError::Syntax(token.pos)),
             },
         }
     }
