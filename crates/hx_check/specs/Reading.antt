@@ -215,6 +215,14 @@ check_init (tree.InitAssign a) symbols known = do
   a' ← check_assignment a symbols known.scopes
   Ok (Assign a' ∷ [], known)
 
+-- what stands between the parentheses of a `for`
+abbrev pub check_clauses : tree.ForClauses → Map Symbol → Known → Checks (Clauses × Known)
+check_clauses h symbols known = do
+  (init, within) ← check_init h.init symbols known
+  test ← check_test h.test symbols within.scopes
+  step ← check_step h.step symbols within.scopes
+  Ok (record { init = init; test = test; step = step }, within)
+
 abbrev pub in_scope : Known → Known
 in_scope known = record { scopes = [] ∷ known.scopes; next = known.next }
 

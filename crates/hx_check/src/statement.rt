@@ -1,11 +1,13 @@
 // Declarations and statements, checked and resolved.
 
-ghost use Rattle.std.specs.Prelude.{◌≡◌, ◌++◌, [], map, option_map, OnOk, IfOk};
-ghost use Rattle.hx_tree.specs.Tree.{exprs, parts};
-ghost use Rattle.hx_tree.specs.View.{expr_of, local_of, init_of, part_of, stmt_of};
+ghost use Rattle.std.specs.Prelude.{◌≡◌, ◌++◌, ◌&&◌, not, [], map, option_map, Ok, OnOk, IfOk};
+ghost use Rattle.hx_tree.specs.Tree as tree;
+ghost use Rattle.hx_tree.specs.Tree.{parts};
+ghost use Rattle.hx_tree.specs.View.{expr_of, local_of, init_of, for_clauses_of, part_of, stmt_of};
+ghost use Rattle.hx_check.specs.Resolve.{kind_if, while_clauses};
 ghost use Rattle.hx_check.specs.Resolved.{Do};
-ghost use Rattle.hx_check.specs.Views.{symbols_in, scopes_of, known_of, resolved_expr, resolved_clauses, resolved_stmt, resolved_simples_in, resolved_stmts_in};
-ghost use Rattle.hx_check.specs.Reading.{IsReading, IsReadingNow, check_locals, check_init, check_return, check_stmt, check_part, check_parts, make_loop};
+ghost use Rattle.hx_check.specs.Views.{symbols_in, scopes_of, known_of, resolved_expr, resolved_clauses, resolved_kind, resolved_stmt, resolved_simples_in, resolved_stmts_in};
+ghost use Rattle.hx_check.specs.Reading.{IsReading, IsReadingNow, check_locals, check_init, check_clauses, check_return, check_stmt, check_part, check_parts, make_loop};
 
 use crate::carried::region_of;
 use crate::error::CheckError;
@@ -80,22 +82,35 @@ fn returned(
     }
 }
 
-/// A loop, which is a region where it is marked and no marked loop is around it.
+/// How a loop runs: as a region where it is marked and no marked loop is around it.
+fn loop_kind(
+    alloc: Global,
+    marked: bool,
+    here: Here,
+    clauses: &Clauses,
+    body: &Stmt,
+) -> Result<LoopKind, AllocError>
+    ensures { IfOk result (λ r. resolved_kind r ≡ kind_if (marked && not here.is_marked) here.privates (resolved_clauses clauses.now) (resolved_stmt body.now)) }
+{
+    if marked && !here.is_marked {
+        Ok(LoopKind::Region(region_of(alloc, here.privates, clauses, body)?))
+    } else {
+        Ok(LoopKind::Plain)
+    }
+}
+
+/// A loop with its body, and how it runs.
 fn make_loop(
     alloc: Global,
     marked: bool,
     here: Here,
     clauses: Clauses,
-    body: Stmt,
-) -> Result<Stmt, AllocError>
-    ensures { IfOk result (λ r. resolved_stmt r ≡ make_loop marked here (resolved_clauses clauses) (resolved_stmt body)) }
+    body: Box<Stmt>,
+) -> Result<Stmt, CheckError>
+    ensures { IsReading (Ok (make_loop marked here (resolved_clauses clauses) (resolved_stmt body.value))) resolved_stmt result }
 {
-    let kind = if marked && !here.is_marked {
-        LoopKind::Region(region_of(alloc, here.privates, &clauses, &body)?)
-    } else {
-        LoopKind::Plain
-    };
-    Ok(Stmt::Loop(kind, clauses, Box::new(alloc, body)?))
+    let kind = loop_kind(alloc, marked, here, &clauses, &body)?;
+    Ok(Stmt::Loop(kind, clauses, body))
 }
 
 /// Adds declarations to the statements of a block.
@@ -106,6 +121,32 @@ fn append(out: &mut Vec<Stmt>, simples: Vec<Simple>) -> Result<(), AllocError>
         out.push(Stmt::Simple(simple))?;
     }
     Ok(())
+}
+
+/// The clauses of a `while`, which has a test only.
+fn while_clauses(alloc: Global, condition: Expr) -> Clauses
+    ensures { resolved_clauses result ≡ while_clauses (resolved_expr condition) }
+{
+    Clauses {
+        init: Vec::new(alloc),
+        test: Some(condition),
+        step: None,
+    }
+}
+
+/// The clauses of a `for`, in the scope that its first clause declares in.
+fn for_clauses(
+    alloc: Global,
+    head: &tree::ForClauses,
+    symbols: &Symbols,
+    locals: &mut Locals,
+) -> Result<Clauses, CheckError>
+    ensures { IsReadingNow (check_clauses (for_clauses_of head.now) (symbols_in symbols.now) (known_of locals.old)) resolved_clauses (known_of locals.new) result }
+{
+    let init = init(alloc, &head.init, symbols, locals)?;
+    let test = test(alloc, &head.test, symbols, &locals.scopes)?;
+    let step = step(alloc, &head.step, symbols, &locals.scopes)?;
+    Ok(Clauses { init, test, step })
 }
 
 /// A statement. The locals that it declares in scopes of its own are forgotten after it, and keep
@@ -121,12 +162,7 @@ fn statement(
     ensures { IsReadingNow (check_stmt (stmt_of s.now) (symbols_in symbols.now) here (known_of locals.old)) resolved_stmt (known_of locals.new) result }
 {
     match s {
-        tree::Stmt::Block(ps) => {
-            locals.open(alloc)?;
-            let body = statements(alloc, ps, symbols, here, locals)?;
-            locals.close();
-            Ok(block(body))
-        }
+        tree::Stmt::Block(ps) => block_statement(alloc, ps, symbols, here, locals),
         tree::Stmt::Empty => Ok(block(Vec::new(alloc))),
         tree::Stmt::Assign(a) => {
             let a = assignment(alloc, a, symbols, &locals.scopes)?;
@@ -144,36 +180,19 @@ fn statement(
             Ok(Stmt::Emit(*pos, expression(alloc, e, symbols, &locals.scopes)?))
         }
         tree::Stmt::If(condition, body) => {
-            let condition = expression(alloc, condition, symbols, &locals.scopes)?;
-            let body = statement(alloc, body, symbols, here, locals)?;
-            Ok(Stmt::If(condition, Box::new(alloc, body)?))
+            if_statement(alloc, body, condition, symbols, here, locals)
         }
         tree::Stmt::IfElse(condition, body, other) => {
             let condition = expression(alloc, condition, symbols, &locals.scopes)?;
-            let body = Box::new(alloc, statement(alloc, body, symbols, here, locals)?)?;
-            let other = statement(alloc, other, symbols, here, locals)?;
-            Ok(Stmt::IfElse(condition, body, Box::new(alloc, other)?))
+            let body = boxed_statement(alloc, body, symbols, here, locals)?;
+            let other = boxed_statement(alloc, other, symbols, here, locals)?;
+            Ok(Stmt::IfElse(condition, body, other))
         }
         tree::Stmt::While(marked, condition, body) => {
-            let condition = expression(alloc, condition, symbols, &locals.scopes)?;
-            let body = statement(alloc, body, symbols, here.inside(*marked), locals)?;
-            let clauses = Clauses {
-                init: Vec::new(alloc),
-                test: Some(condition),
-                step: None,
-            };
-            Ok(make_loop(alloc, *marked, here, clauses, body)?)
+            while_statement(alloc, *marked, body, condition, symbols, here, locals)
         }
         tree::Stmt::For(marked, head, body) => {
-            locals.open(alloc)?;
-            let clauses = Clauses {
-                init: init(alloc, &head.init, symbols, locals)?,
-                test: test(alloc, &head.test, symbols, &locals.scopes)?,
-                step: step(alloc, &head.step, symbols, &locals.scopes)?,
-            };
-            let body = statement(alloc, body, symbols, here.inside(*marked), locals)?;
-            locals.close();
-            Ok(make_loop(alloc, *marked, here, clauses, body)?)
+            for_statement(alloc, *marked, head, body, symbols, here, locals)
         }
         tree::Stmt::Break(pos) => {
             here.check_loop(*pos)?;
@@ -188,6 +207,93 @@ fn statement(
             Ok(Stmt::Return(value))
         }
     }
+}
+
+/// A statement that stands in another.
+#[cycle(statements)]
+fn boxed_statement(
+    alloc: Global,
+    s: &tree::Stmt,
+    symbols: &Symbols,
+    here: Here,
+    locals: &mut Locals,
+) -> Result<Box<Stmt>, CheckError>
+    ensures { IsReadingNow (check_stmt (stmt_of s.now) (symbols_in symbols.now) here (known_of locals.old)) (λ b. resolved_stmt b.value) (known_of locals.new) result }
+{
+    let s = statement(alloc, s, symbols, here, locals)?;
+    Ok(Box::new(alloc, s)?)
+}
+
+/// A block, which is a scope of its own.
+#[cycle(statements)]
+fn block_statement(
+    alloc: Global,
+    ps: &[tree::Part],
+    symbols: &Symbols,
+    here: Here,
+    locals: &mut Locals,
+) -> Result<Stmt, CheckError>
+    ensures { IsReadingNow (check_stmt (tree.Block (parts (map part_of ps.now))) (symbols_in symbols.now) here (known_of locals.old)) resolved_stmt (known_of locals.new) result }
+{
+    locals.open(alloc)?;
+    let body = statements(alloc, ps, symbols, here, locals)?;
+    locals.close();
+    Ok(block(body))
+}
+
+/// An `if` without an `else`.
+#[cycle(statements)]
+fn if_statement(
+    alloc: Global,
+    body: &tree::Stmt,
+    condition: &tree::Expr,
+    symbols: &Symbols,
+    here: Here,
+    locals: &mut Locals,
+) -> Result<Stmt, CheckError>
+    ensures { IsReadingNow (check_stmt (tree.If (expr_of condition.now) (stmt_of body.now)) (symbols_in symbols.now) here (known_of locals.old)) resolved_stmt (known_of locals.new) result }
+{
+    let condition = expression(alloc, condition, symbols, &locals.scopes)?;
+    let body = boxed_statement(alloc, body, symbols, here, locals)?;
+    Ok(Stmt::If(condition, body))
+}
+
+/// A `while`.
+#[cycle(statements)]
+fn while_statement(
+    alloc: Global,
+    marked: bool,
+    body: &tree::Stmt,
+    condition: &tree::Expr,
+    symbols: &Symbols,
+    here: Here,
+    locals: &mut Locals,
+) -> Result<Stmt, CheckError>
+    ensures { IsReadingNow (check_stmt (tree.While marked (expr_of condition.now) (stmt_of body.now)) (symbols_in symbols.now) here (known_of locals.old)) resolved_stmt (known_of locals.new) result }
+{
+    let condition = expression(alloc, condition, symbols, &locals.scopes)?;
+    let body = boxed_statement(alloc, body, symbols, here.inside(marked), locals)?;
+    make_loop(alloc, marked, here, while_clauses(alloc, condition), body)
+}
+
+/// A `for`, whose first clause declares in a scope of its own.
+#[cycle(statements)]
+fn for_statement(
+    alloc: Global,
+    marked: bool,
+    head: &tree::ForClauses,
+    body: &tree::Stmt,
+    symbols: &Symbols,
+    here: Here,
+    locals: &mut Locals,
+) -> Result<Stmt, CheckError>
+    ensures { IsReadingNow (check_stmt (tree.For marked (for_clauses_of head.now) (stmt_of body.now)) (symbols_in symbols.now) here (known_of locals.old)) resolved_stmt (known_of locals.new) result }
+{
+    locals.open(alloc)?;
+    let clauses = for_clauses(alloc, head, symbols, locals)?;
+    let body = boxed_statement(alloc, body, symbols, here.inside(marked), locals)?;
+    locals.close();
+    make_loop(alloc, marked, here, clauses, body)
 }
 
 /// Adds a part of a block to its statements.
