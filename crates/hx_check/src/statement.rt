@@ -2,8 +2,9 @@
 
 ghost use Rattle.std.specs.Prelude.{◌≡◌, ◌++◌, ◌&&◌, not, [], map, option_map, Ok, OnOk, IfOk};
 ghost use Rattle.hx_tree.specs.Tree as tree;
-ghost use Rattle.hx_tree.specs.Tree.{parts};
-ghost use Rattle.hx_tree.specs.View.{expr_of, local_of, init_of, for_clauses_of, part_of, stmt_of};
+ghost use Rattle.hx_tree.specs.Tree.{exprs, parts};
+ghost use Rattle.hx_tree.specs.View.{name_of, expr_of, assignment_of, local_of, init_of, for_clauses_of, part_of, stmt_of};
+ghost use Rattle.hx_check.specs.declared.here.Here.{Here};
 ghost use Rattle.hx_check.specs.Resolve.{kind_if, while_clauses};
 ghost use Rattle.hx_check.specs.Resolved.{Do};
 ghost use Rattle.hx_check.specs.Views.{symbols_in, scopes_of, known_of, resolved_expr, resolved_clauses, resolved_kind, resolved_stmt, resolved_simples_in, resolved_stmts_in};
@@ -20,7 +21,7 @@ use crate::resolved::{Clauses, Expr, LoopKind, Simple, Stmt};
 use crate::table::Symbols;
 use hx_tree::token::Pos;
 use hx_tree::tree;
-use hx_tree::tree::{LocalDecl, Returns};
+use hx_tree::tree::{LocalDecl, Name, Returns};
 use std::alloc::{AllocError, Global};
 
 /// The locals of a declaration, each known from after its own initialiser.
@@ -149,6 +150,60 @@ fn for_clauses(
     Ok(Clauses { init, test, step })
 }
 
+/// An assignment as a statement, wherever it stands.
+fn assign_statement(
+    alloc: Global,
+    a: &tree::Assignment,
+    symbols: &Symbols,
+    locals: &Locals,
+) -> Result<Stmt, CheckError>
+    ensures { (here : Here) → IsReadingNow (check_stmt (tree.Assign (assignment_of a.now)) (symbols_in symbols.now) here (known_of locals.now)) resolved_stmt (known_of locals.now) result }
+{
+    let a = assignment(alloc, a, symbols, &locals.scopes)?;
+    Ok(Stmt::Simple(Simple::Assign(a)))
+}
+
+/// A call whose value isn't wanted, wherever it stands.
+fn call_statement(
+    alloc: Global,
+    f: &Name,
+    args: &[tree::Expr],
+    symbols: &Symbols,
+    locals: &Locals,
+) -> Result<Stmt, CheckError>
+    ensures { (here : Here) → IsReadingNow (check_stmt (tree.CallStatement (name_of f.now) (exprs (map expr_of args.now))) (symbols_in symbols.now) here (known_of locals.now)) resolved_stmt (known_of locals.now) result }
+{
+    let number = function_named(symbols, &locals.scopes, false, f, args.len())?;
+    let args = arguments(alloc, args, symbols, &locals.scopes)?;
+    Ok(Stmt::CallStatement(number, f.pos, args))
+}
+
+/// A `print`, wherever it stands.
+fn print_statement(
+    alloc: Global,
+    pos: Pos,
+    e: &tree::Expr,
+    symbols: &Symbols,
+    locals: &Locals,
+) -> Result<Stmt, CheckError>
+    ensures { (here : Here) → IsReadingNow (check_stmt (tree.Print pos (expr_of e.now)) (symbols_in symbols.now) here (known_of locals.now)) resolved_stmt (known_of locals.now) result }
+{
+    Ok(Stmt::Print(pos, expression(alloc, e, symbols, &locals.scopes)?))
+}
+
+/// An `emit`, wherever it stands.
+fn emit_statement(
+    alloc: Global,
+    pos: Pos,
+    e: &tree::Expr,
+    symbols: &Symbols,
+    locals: &Locals,
+) -> Result<Stmt, CheckError>
+    ensures { (here : Here) → IsReadingNow (check_stmt (tree.Emit pos (expr_of e.now)) (symbols_in symbols.now) here (known_of locals.now)) resolved_stmt (known_of locals.now) result }
+{
+    Ok(Stmt::Emit(pos, expression(alloc, e, symbols, &locals.scopes)?))
+}
+
 /// A statement. The locals that it declares in scopes of its own are forgotten after it, and keep
 /// their private words.
 #[cycle(statements)]
@@ -164,21 +219,10 @@ fn statement(
     match s {
         tree::Stmt::Block(ps) => block_statement(alloc, ps, symbols, here, locals),
         tree::Stmt::Empty => Ok(block(Vec::new(alloc))),
-        tree::Stmt::Assign(a) => {
-            let a = assignment(alloc, a, symbols, &locals.scopes)?;
-            Ok(Stmt::Simple(Simple::Assign(a)))
-        }
-        tree::Stmt::CallStatement(f, args) => {
-            let number = function_named(symbols, &locals.scopes, false, f, args.len())?;
-            let args = arguments(alloc, args, symbols, &locals.scopes)?;
-            Ok(Stmt::CallStatement(number, f.pos, args))
-        }
-        tree::Stmt::Print(pos, e) => {
-            Ok(Stmt::Print(*pos, expression(alloc, e, symbols, &locals.scopes)?))
-        }
-        tree::Stmt::Emit(pos, e) => {
-            Ok(Stmt::Emit(*pos, expression(alloc, e, symbols, &locals.scopes)?))
-        }
+        tree::Stmt::Assign(a) => assign_statement(alloc, a, symbols, locals),
+        tree::Stmt::CallStatement(f, args) => call_statement(alloc, f, args, symbols, locals),
+        tree::Stmt::Print(pos, e) => print_statement(alloc, *pos, e, symbols, locals),
+        tree::Stmt::Emit(pos, e) => emit_statement(alloc, *pos, e, symbols, locals),
         tree::Stmt::If(condition, body) => {
             if_statement(alloc, body, condition, symbols, here, locals)
         }
