@@ -41,8 +41,8 @@ pub(crate) fn expression(
         tree::Expr::Variable(x) => Ok(int_named(symbols, scopes, x)?.read()),
         tree::Expr::Element(x, index) => {
             let words = array_named(symbols, scopes, x)?;
-            let index = expression(alloc, index, symbols, scopes)?;
-            Ok(Expr::Element(words, x.pos, Box::new(alloc, index)?))
+            let index = boxed_expression(alloc, index, symbols, scopes)?;
+            Ok(Expr::Element(words, x.pos, index))
         }
         tree::Expr::Call(f, args) => {
             let number = function_named(symbols, scopes, true, f, args.len())?;
@@ -51,16 +51,29 @@ pub(crate) fn expression(
         }
         tree::Expr::Paren(inner) => expression(alloc, inner, symbols, scopes),
         tree::Expr::Unary(op, operand) => {
-            let operand = expression(alloc, operand, symbols, scopes)?;
-            Ok(Expr::Unary(*op, Box::new(alloc, operand)?))
+            let operand = boxed_expression(alloc, operand, symbols, scopes)?;
+            Ok(Expr::Unary(*op, operand))
         }
         tree::Expr::Binary(op, pos, left, right) => {
-            let left = expression(alloc, left, symbols, scopes)?;
-            let right = expression(alloc, right, symbols, scopes)?;
-            let left = Box::new(alloc, left)?;
-            Ok(Expr::Binary(*op, *pos, left, Box::new(alloc, right)?))
+            let left = boxed_expression(alloc, left, symbols, scopes)?;
+            let right = boxed_expression(alloc, right, symbols, scopes)?;
+            Ok(Expr::Binary(*op, *pos, left, right))
         }
     }
+}
+
+/// An expression that stands in another.
+#[cycle(expressions)]
+fn boxed_expression(
+    alloc: Global,
+    e: &tree::Expr,
+    symbols: &Symbols,
+    scopes: &Scopes,
+) -> Result<Box<Expr>, CheckError>
+    ensures { IsReading (check_expr (expr_of e.now) (symbols_in symbols.now) (scopes_of scopes.now)) (λ b. resolved_expr b.value) result }
+{
+    let e = expression(alloc, e, symbols, scopes)?;
+    Ok(Box::new(alloc, e)?)
 }
 
 /// The arguments of a call, from left to right.
