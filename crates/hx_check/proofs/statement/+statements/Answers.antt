@@ -1,4 +1,5 @@
-use Rattle.std.proofs.Common.{rules}
+use Rattle.std.proofs.Common.{rules, arith}
+use Rattle.std.proofs.lemmas.Grind.{common_steps}
 use Rattle.hx_check.specs.Views.{symbols_in, known_of}
 use Rattle.hx_tree.specs.View.{for_clauses_of, stmt_of}
 use Rattle.hx_check.proofs.Calls.{block_of, for_at}
@@ -24,3 +25,6 @@ statement-returns-in-Print t c = rw c.in-Print.is (c.print_statement.ensures c.a
 
 pub statement-returns-in-Emit : goal.statement-returns-in-Emit
 statement-returns-in-Emit t c = rw c.in-Emit.is (c.emit_statement.ensures c.args.here)
+
+pub statements-loop-p-preserved : goal.statements-loop-p-preserved
+statements-loop-p-preserved t c = grind (arith, common_steps)
