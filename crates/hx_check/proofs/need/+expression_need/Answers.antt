@@ -1,4 +1,5 @@
 use Rattle.std.proofs.Common.{map, ap, arith}
+use Rattle.std.proofs.lemmas.Grind.{common_steps}
 use Rattle.hx_tree.specs.Tree.{exprs}
 use Rattle.hx_tree.specs.View.{expr_of}
 use Rattle.hx_tree.specs.Need.{needs}
@@ -10,3 +11,6 @@ need-returns-in-Call t c =
     let is = need_of_call c.args.e.now c.in-Call.field-0 c.in-Call.arguments c.in-Call.is in
     let items = ap (λ l. needs (exprs (map expr_of l)) 0) c.deref-in-Call.ensures.value in
     omega arith
+
+pub needs-loop-e-preserved : goal.needs-loop-e-preserved
+needs-loop-e-preserved t c = grind (arith, common_steps)
