@@ -38,14 +38,6 @@ call_at e f args symbols scopes is =
 pub block_of : (s : code_stmt.Stmt) (ps : Vec code_part.Part Global) → s ≡ stmt.Block ps → stmt_of s ≡ tree.Block (tree.parts (map part_of ps.items))
 block_of s ps is = ap stmt_of is ∙ block_is ps
 
-pub call_statement_at : (s : code_stmt.Stmt) (f : Name) (args : Vec code.Expr Global) (symbols : Map Symbol) (here : Here) (known : Known) → s ≡ stmt.CallStatement f args
-    → check_stmt (stmt_of s) symbols here known
-    ≡ (check_callee false (name_of f) (length args.items) symbols known.scopes
-    >>= (λ number. check_exprs (tree.exprs (map expr_of args.items)) symbols known.scopes [] >>= (λ arguments. Ok (CallStatement number f.pos (exprs arguments), known))))
-call_statement_at s f args symbols here known is =
-    ap (λ s'. check_stmt (stmt_of s') symbols here known) is
-    ∙ ap (λ n. check_callee false (name_of f) n symbols known.scopes >>= (λ number. check_exprs (tree.exprs (map expr_of args.items)) symbols known.scopes [] >>= (λ arguments. Ok (CallStatement number f.pos (exprs arguments), known)))) (count_items args.items)
-
 -- ---- the clauses of a `for`, read before its body
 
 after_step : {A B C : Type 0} (m : Checks A) (f : A → B) (g : B → Checks C) → (m >>= (λ a. g (f a))) ≡ ((m >>= (λ a. Ok (f a))) >>= g)
