@@ -1,6 +1,7 @@
 // Tests of whole runs.
 
 mod checking;
+mod codes;
 mod forms;
 mod inputs;
 mod lexing;
@@ -8,5 +9,6 @@ mod listings;
 mod nodes;
 mod parsing;
 mod paths;
+mod regions;
 mod rows;
 mod trees;

@@ -11,8 +11,6 @@ mod opening;
 pub mod plain;
 pub mod region_run;
 mod state;
-#[cfg(test)]
-mod tests;
 mod text;
 
 pub use entry::{Entry, RegionEnd};

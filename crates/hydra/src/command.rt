@@ -117,7 +117,7 @@ fn tell_command_line<W: Write, E: Write>(error: &Error, out: &mut W, err: &mut E
 ///
 /// Printed text, listings and help go to `out`. A fault or a refusal is told on `err` in one line, with its number and,
 /// where it has one, its place.
-pub fn command<R: Files + AllocGlobal + Wait, S: AsStr, W: Write, E: Write>(
+pub(crate) fn command<R: Files + AllocGlobal + Wait, S: AsStr, W: Write, E: Write>(
     rt: &R,
     words: &[S],
     out: &mut W,

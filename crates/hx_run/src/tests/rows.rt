@@ -339,6 +339,32 @@ fn text_is_full(rt: HostRuntime) {
     }
 }
 
+// A number is printed whole, with its line feed, or not at all.
+#[test]
+fn numbers_are_printed_whole(rt: HostRuntime) {
+    let rows = [
+        (
+            b"int main(){ for(int i=0;i<1048573;i++) emit(65); print(5); emit(66); print(5); }".as_slice(),
+            1_048_576,
+            70,
+        ),
+        (
+            b"int main(){ for(int i=0;i<1048575;i++) emit(65); print(5); }",
+            1_048_575,
+            50,
+        ),
+    ];
+    for (source, bytes, col) in rows {
+        match run_plain(rt.alloc(), source, &[], STEPS) {
+            Ok(PlainRan::Ended(finish)) => {
+                assert_eq!(&rt; finish.outcome.text.len(), bytes);
+                assert!(&rt; finish.outcome.end == fault(FaultKind::TextFull, 1, col));
+            }
+            _ => assert!(&rt; false),
+        }
+    }
+}
+
 // `int main(){ print(1); }` with so many pairs of parentheses round the 1.
 fn in_parentheses(alloc: Global, pairs: usize) -> Result<Vec<u8>, Fail> {
     let mut source = Vec::from_slice(alloc, b"int main(){ print(")?;

@@ -1,4 +1,5 @@
-use Rattle.std.proofs.Common.{rules, ◌≡◌, map, ap, ◌∙◌}
+use Rattle.std.proofs.Common.{rules, arith, ◌≡◌, map, ap, ◌∙◌}
+use Rattle.std.proofs.lemmas.Grind.{common_steps}
 use Rattle.hx_check.specs.Resolved.{stmts}
 use Rattle.hx_check.specs.Views.{resolved_stmt}
 use Rattle.hx_lowering.specs.Size as size
@@ -10,3 +11,6 @@ stmt_size-returns-in-Block t c =
     let all : size.stmt_size (resolved_stmt c.args.s.now) ≡ size.stmts_size (stmts (map resolved_stmt c.in-Block.inner.items)) =
     ap (λ e. size.stmt_size (resolved_stmt e)) c.in-Block.is ∙ ap size.stmt_size (block_is c.in-Block.inner) in
     search rules
+
+pub stmts_size-loop-s-preserved : goal.stmts_size-loop-s-preserved
+stmts_size-loop-s-preserved t c = grind (arith, common_steps)

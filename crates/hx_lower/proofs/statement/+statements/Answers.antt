@@ -1,4 +1,5 @@
-use Rattle.std.proofs.Common.{rules, ◌≡◌, map, ap, ◌∙◌, length}
+use Rattle.std.proofs.Common.{rules, arith, ◌≡◌, map, ap, ◌∙◌, length}
+use Rattle.std.proofs.lemmas.Grind.{common_steps}
 use Rattle.hx_check.specs.Resolved as resolved
 use Rattle.hx_check.specs.Views.{resolved_expr, resolved_stmt}
 use Rattle.hx_lowering.specs.Lines.{count}
@@ -16,3 +17,6 @@ put_stmt-returns-in_ok-put-in-CallStatement t c =
     let many : count (resolved.exprs (map resolved_expr c.in-CallStatement.arguments.items)) ≡ length c.in-CallStatement.arguments.items =
     count_is c.in-CallStatement.arguments.items in
     search rules
+
+pub put_stmts-loop-s-preserved : goal.put_stmts-loop-s-preserved
+put_stmts-loop-s-preserved t c = grind (arith, common_steps)

@@ -16,12 +16,7 @@ fn at(col: u32) -> Pos {
 }
 
 // The spots of words in one function, by their heights; those from `from` up to `to` stand in region 0.
-pub(crate) fn spots(
-    alloc: Global,
-    heights: &[u32],
-    from: usize,
-    to: usize,
-) -> Result<Vec<Spot>, AllocError> {
+fn spots(alloc: Global, heights: &[u32], from: usize, to: usize) -> Result<Vec<Spot>, AllocError> {
     let mut made = Vec::new(alloc);
     for (place, height) in heights.iter().enumerate() {
         let region = if from <= place && place < to {

@@ -1,12 +1,12 @@
 -- The region's own end fits its machine.
-use Rattle.std.proofs.Common.{arith, ◌≡◌, length, ap, sym, ◌∙◌}
+use Rattle.std.proofs.Common.{arith, ap, sym, ◌∙◌}
 use Rattle.hx_code.specs.Code.{store_words}
 use Rattle.hx_code.specs.Region.{Opened}
 use Rattle.hx_word.specs.Running.{RunView}
-use Rattle.hx_word.proofs.tests.behind.Goals as goal
+use Rattle.hx_run.proofs.tests.regions.end_of.Goals as goal
 
-pub resume-requires : goal.resume-requires
-resume-requires c =
+pub returns-in-Ok : goal.returns-in-Ok
+returns-in-Ok c =
     let lasts = c.in-Ok.ensures.fits in
     let code = ap (λ (r : RunView). r.code) c.run-ended.ensures.ran ∙ ap (λ (r : RunView). r.code) c.in_ok-run.ensures ∙ sym c.requires in
     let count = ap (λ (r : RunView). r.locals) c.run-ended.ensures.ran ∙ ap (λ (r : RunView). r.locals) c.in_ok-run.ensures in
