@@ -1,0 +1,9 @@
+//! Write buffers: what an iteration has written and not settled yet. A map of so many words at most, which can be laid over a store;
+//! `specs/Overlay.antt` says what that makes of the store.
+#![tactic(auto)]
+
+pub mod buffer;
+#[cfg(test)]
+mod tests;
+
+pub use buffer::WriteBuffer;

@@ -1,0 +1,10 @@
+//! Read marks: what an iteration has read of words that it hadn't written, each with the value that it saw. A map of so many
+//! words at most; `specs/Table.antt` says what such a map is.
+#![tactic(auto)]
+
+pub mod laws;
+pub mod marks;
+#[cfg(test)]
+mod tests;
+
+pub use marks::{Entry, Full, Marks};

@@ -1,0 +1,117 @@
+// A bounded map from store words to values.
+
+ghost use Rattle.std.specs.Prelude.{◌≡◌, ◌↔◌, ◌≤◌, [], length, None, IfOk, OnOk, OnErr, IsErr};
+ghost use Rattle.hx_marks.specs.Table.{look, put, count_below, IsRising};
+
+use std::alloc::{AllocError, Global};
+use std::marker::Model;
+use thiserror::Error;
+
+/// A store word and the value that was read of it.
+#[derive(Clone, Copy, PartialEq, Eq, Debug)]
+pub struct Entry {
+    pub word: u32,
+    pub value: i32,
+}
+
+/// There is no room for another word: whoever asked goes on once it is the head.
+#[derive(Clone, Copy, PartialEq, Eq, Debug, Error)]
+#[error("full")]
+pub struct Full;
+
+/// The read marks of one iteration: the words that it has read and not written before, each with the value that it saw
+/// (Hammond, Willey and Olukotun, ASPLOS 1998). Contracts see the entries, in rising order of their words, and how many there
+/// may be.
+#[derive(Drop)]
+pub struct Marks {
+    entries: Vec<Entry>,
+    capacity: usize,
+}
+
+impl Model for Marks {
+    ghost use Rattle.std.specs.Prelude.{◌≤◌, length, vec_capacity};
+    ghost use Rattle.hx_marks.specs.Table.{MapView, IsRising};
+
+    ghost Value = { MapView };
+
+    ghost view = { λ m. record { entries = m.entries.items; capacity = m.capacity } };
+
+    ghost invariant = { λ m. IsRising m.entries.items × (length m.entries.items ≤ m.capacity) × (m.capacity ≤ vec_capacity m.entries) };
+}
+
+impl Marks {
+    /// No marks, with room for so many words. All the room that there will be is made here.
+    pub fn with_capacity(alloc: Global, capacity: usize) -> Result<Marks, AllocError>
+        ensures { IfOk result (λ m. m ≡ record { entries = []; capacity = capacity }) }
+    {
+        Ok(Marks {
+            entries: Vec::with_capacity(alloc, capacity)?,
+            capacity,
+        })
+    }
+
+    /// The value that was read of a word, if it is marked.
+    pub fn get(&self, word: u32) -> Option<i32>
+        ensures { result ≡ look self.now.entries word }
+    {
+        let place = self.place(word);
+        if place >= self.entries.len() {
+            return None;
+        }
+        let entry = self.entries[place];
+        if entry.word == word {
+            Some(entry.value)
+        } else {
+            None
+        }
+    }
+
+    /// Marks a word with the value that was read of it; a word that is marked already gets this value. It takes no memory.
+    ///
+    /// Refused exactly where there are as many marks as there may be and the word isn't among them; nothing changes then.
+    pub fn mark(&mut self, word: u32, value: i32) -> Result<(), Full>
+        ensures marked { OnOk result (self.new ≡ record self.old { entries = put self.old.entries word value }) }
+        ensures full { IsErr result ↔ ((look self.old.entries word ≡ None) × (self.old.capacity ≤ length self.old.entries)) }
+        ensures kept { OnErr result (self.new ≡ self.old) }
+    {
+        let place = self.place(word);
+        let entry = Entry { word, value };
+        if place < self.entries.len() && self.entries[place].word == word {
+            self.entries[place] = entry;
+            return Ok(());
+        }
+        if self.entries.len() >= self.capacity {
+            return Err(Full);
+        }
+        match self.entries.insert(place, entry) {
+            Ok(()) => Ok(()),
+            Err(_) => unreachable!(),
+        }
+    }
+
+    /// The marks, in rising order of their words.
+    pub fn entries(&self) -> &[Entry]
+        ensures all { result.now ≡ self.now.entries }
+        ensures rising { IsRising self.now.entries }
+    {
+        &self.entries
+    }
+
+    /// Forgets all marks, and keeps the room for them.
+    pub fn clear(&mut self)
+        ensures { self.new ≡ record self.old { entries = [] } }
+    {
+        self.entries.clear();
+    }
+
+    // How many marked words are below a word.
+    fn place(&self, word: u32) -> usize
+        ensures { result ≡ count_below self.now.entries word }
+    {
+        let mut place = 0;
+        while place < self.entries.len() && self.entries[place].word < word {
+            place += 1;
+        }
+        place
+    }
+}
