@@ -1,7 +1,7 @@
-// A buffer of two words, filled, refused a third, and laid over a store of four.
+// Tables of a few words: filled, refused another, emptied, and laid over a store.
 
 use crate::buffer::WriteBuffer;
-use hx_marks::marks::{Entry, Full};
+use hx_marks::marks::{Entry, Full, Marks};
 use std::test::Fail;
 
 #[test]
@@ -44,5 +44,43 @@ fn words_beyond_the_store_are_dropped(rt: HostRuntime) -> Result<(), Fail> {
     buffer.drain_into(&mut store);
     assert_eq!(rt; store, [10, 8]);
     assert_eq!(rt; buffer.entries().len(), 0);
+    Ok(())
+}
+
+const FOUR: Entry = Entry { word: 4, value: -2 };
+
+const SEVEN: Entry = Entry { word: 7, value: 3 };
+
+#[test]
+fn two_words_fill_marks_of_two(rt: HostRuntime) -> Result<(), Fail> {
+    let mut marks = Marks::with_capacity(rt.alloc(), 2)?;
+    assert_eq!(rt; marks.get(7), None);
+    assert_eq!(rt; marks.mark(7, 1), Ok(()));
+    assert_eq!(rt; marks.mark(4, -2), Ok(()));
+    assert_eq!(rt; marks.mark(5, 0), Err(Full));
+    assert_eq!(rt; marks.mark(7, 3), Ok(()));
+    assert_eq!(rt;
+        [marks.get(4), marks.get(5), marks.get(7)],
+        [Some(-2), None, Some(3)]
+    );
+    assert_eq!(rt; marks.entries(), [FOUR, SEVEN].as_slice());
+    Ok(())
+}
+
+#[test]
+fn emptied_marks_have_their_room_again(rt: HostRuntime) -> Result<(), Fail> {
+    let mut marks = Marks::with_capacity(rt.alloc(), 1)?;
+    assert_eq!(rt; marks.mark(7, 3), Ok(()));
+    marks.clear();
+    assert_eq!(rt; marks.get(7), None);
+    assert_eq!(rt; marks.mark(4, -2), Ok(()));
+    assert_eq!(rt; marks.entries(), [FOUR].as_slice());
+    Ok(())
+}
+
+#[test]
+fn marks_without_room_are_full(rt: HostRuntime) -> Result<(), Fail> {
+    let mut marks = Marks::with_capacity(rt.alloc(), 0)?;
+    assert_eq!(rt; marks.mark(0, 0), Err(Full));
     Ok(())
 }

@@ -4,7 +4,5 @@
 
 pub mod laws;
 pub mod marks;
-#[cfg(test)]
-mod tests;
 
 pub use marks::{Entry, Full, Marks};
