@@ -1,5 +1,6 @@
 // Small codes by hand: what the rules refuse, and what the executor does before it asks.
 
+use crate::compile;
 use hx_code::code::Code;
 use hx_code::local::Local;
 use hx_code::table::{Carried, Func, Region, Spot, Tables};
@@ -305,14 +306,19 @@ fn code_shows_its_parts(rt: HostRuntime) -> Result<(), Fail> {
     Ok(())
 }
 
+// Whether its first function is called main, and the globals begin as one 7.
+fn begins_as_main_with_7(code: &Code) -> bool {
+    code.functions().len() > 0
+        && code.function_at(0).name() == b"main".as_slice()
+        && code.opening() == [7].as_slice()
+}
+
 #[test]
 fn code_shows_main_and_the_globals(rt: HostRuntime) -> Result<(), Fail> {
     let code = code_of(rt.alloc(), Flaw::None)?.ok_or("valid")?;
-    assert_eq!(rt; code.functions().len(), 1);
-    assert_eq!(rt; code.function_at(0).name(), b"main".as_slice());
-    assert_eq!(rt; code.opening(), [7].as_slice());
-    assert_eq!(rt; code.input(), Some(Array { base: 0, length: 1 }));
-    assert_eq!(rt; code.input_length(), Some(0));
+    assert!(rt; begins_as_main_with_7(&code));
+    let input = Array { base: 0, length: 1 };
+    assert!(rt; code.input() == Some(input) && code.input_length() == Some(0));
     Ok(())
 }
 
@@ -483,84 +489,34 @@ fn private_words_and_jumps(rt: HostRuntime) -> Result<(), Fail> {
     Ok(())
 }
 
-// A program of two functions, the second of which has the words from its entry on.
-fn two_functions(
-    alloc: Global,
-    words: &[Word],
-    heights: &[u32],
-    functions: Vec<Func>,
-) -> Result<Option<Code>, AllocError> {
-    let second = match functions.get(1) {
-        None => 0,
-        Some(function) => function.entry(),
-    };
-    let mut made = Vec::new(alloc);
-    for (place, height) in heights.iter().enumerate() {
-        made.push(Spot {
-            function: if place < second as usize { 0 } else { 1 },
-            region: None,
-            height: *height,
-        })?;
+// What the program of a source asks first, after how many words, and in how many calls.
+fn first_of(alloc: Global, source: &[u8]) -> Result<(Ask, u64, usize), Fail> {
+    match compile(alloc, source) {
+        Err(_) => Err(Fail::from("refused")),
+        Ok(code) => {
+            let mut local = Local::new(alloc, &code)?;
+            let done = local.stretch(&code, 1000);
+            Ok((done.ask, done.words, local.calls()))
+        }
     }
-    let tables = Tables {
-        spots: made,
-        functions,
-        regions: Vec::new(alloc),
-        globals: 0,
-        opening: Vec::new(alloc),
-        main: 0,
-        input: None,
-        input_length: None,
-    };
-    Ok(validate(Vec::from_slice(alloc, words)?, tables))
 }
 
-// `int less(int a, int b){ return a-b; } int main(){ return less(7, 3); }`
 #[test]
 fn calls_take_their_arguments(rt: HostRuntime) -> Result<(), Fail> {
-    let alloc = rt.alloc();
-    let words = [
-        Word::Const(7),
-        Word::Const(3),
-        Word::Call(1, at(50)),
-        Word::Ret,
-        Word::Priv(0),
-        Word::Priv(1),
-        Word::Binary(Operator::Sub, at(30)),
-        Word::Ret,
-    ];
-    let mut functions = Vec::new(alloc);
-    functions.push(Func::new(b"main".to_vec(alloc)?, 0, 0, 0))?;
-    functions.push(Func::new(b"less".to_vec(alloc)?, 4, 2, 2))?;
-    let code = two_functions(alloc, &words, &[0, 1, 2, 1, 0, 1, 2, 1], functions)?.ok_or("valid")?;
-    let mut local = Local::new(alloc, &code)?;
-    let done = local.stretch(&code, 1000);
-    assert_eq!(rt; (done.ask, done.words), (Ask::Returns(4), 7));
+    let source = b"int less(int a, int b){ return a-b; } int main(){ return less(7, 3); }";
+    let wanted = (Ask::Returns(4), 7, 1);
+    assert!(rt; first_of(rt.alloc(), source)? == wanted);
     Ok(())
 }
 
-// `int f(){ return f(); } int main(){ return f(); }`
 #[test]
 fn the_sixty_fifth_call_is_a_fault(rt: HostRuntime) -> Result<(), Fail> {
-    let alloc = rt.alloc();
-    let words = [
-        Word::Call(1, at(40)),
-        Word::Ret,
-        Word::Call(1, at(17)),
-        Word::Ret,
-    ];
-    let mut functions = Vec::new(alloc);
-    functions.push(Func::new(b"main".to_vec(alloc)?, 0, 0, 0))?;
-    functions.push(Func::new(b"f".to_vec(alloc)?, 2, 0, 0))?;
-    let code = two_functions(alloc, &words, &[0, 1, 0, 1], functions)?.ok_or("valid")?;
-    let mut local = Local::new(alloc, &code)?;
-    let done = local.stretch(&code, 1000);
+    let source = b"int f(){ return f(); } int main(){ return f(); }";
     let fault = Fault {
         kind: FaultKind::CallTooDeep,
         pos: at(17),
     };
-    assert_eq!(rt; (done.ask, done.words), (Ask::Faults(fault), 63));
-    assert_eq!(rt; local.calls(), 64);
+    assert!(rt; first_of(rt.alloc(), source)? == (Ask::Faults(fault), 63, 64));
     Ok(())
 }
 
