@@ -1,3 +1,4 @@
+use Rattle.std.proofs.lemmas.Grind.{common_steps}
 use Rattle.std.proofs.Common.{◌≡◌, ◌<◌, [], ◌∷◌, ◌++◌, map, length, refl, ap, arith}
 use Rattle.std.proofs.lemmas.Result.{err_from_is_err_and}
 use Rattle.std.proofs.lemmas.List.{map_push}
@@ -94,3 +95,318 @@ arguments-returns-clause-read t c =
 
 pub arguments-returns-clause-shorter : goal.arguments-returns-clause-shorter
 arguments-returns-clause-shorter t c = omega (arith, ap length c.loop-self-test.ensures.1, c.in_ok-expect.ensures.shorter)
+
+pub arguments-same-self : goal.arguments-same-self
+arguments-same-self t c = grind (arith, common_steps)
+
+pub arguments-returns-then-take-clause-height : goal.arguments-returns-then-take-clause-height
+arguments-returns-then-take-clause-height t c = grind (arith, common_steps)
+
+pub arguments-expr-requires : goal.arguments-expr-requires
+arguments-expr-requires t c = grind (arith, common_steps)
+
+pub arguments-returns-in_err-first-clause-height : goal.arguments-returns-in_err-first-clause-height
+arguments-returns-in_err-first-clause-height t c = grind (arith, common_steps)
+
+pub arguments-returns-in_err-first-clause-shorter : goal.arguments-returns-in_err-first-clause-shorter
+arguments-returns-in_err-first-clause-shorter t c = grind (arith, common_steps)
+
+pub arguments-returns-in_err-push-clause-read : goal.arguments-returns-in_err-push-clause-read
+arguments-returns-in_err-push-clause-read t c = grind (arith, common_steps)
+
+pub arguments-returns-in_err-push-clause-height : goal.arguments-returns-in_err-push-clause-height
+arguments-returns-in_err-push-clause-height t c = grind (arith, common_steps)
+
+pub arguments-returns-in_err-push-clause-shorter : goal.arguments-returns-in_err-push-clause-shorter
+arguments-returns-in_err-push-clause-shorter t c = grind (arith, common_steps)
+
+pub arguments-expr-requires-in-loop-self : goal.arguments-expr-requires-in-loop-self
+arguments-expr-requires-in-loop-self t c = grind (arith, common_steps)
+
+pub arguments-returns-in_err-next-clause-height : goal.arguments-returns-in_err-next-clause-height
+arguments-returns-in_err-next-clause-height t c = grind (arith, common_steps)
+
+pub arguments-returns-in_err-next-clause-shorter : goal.arguments-returns-in_err-next-clause-shorter
+arguments-returns-in_err-next-clause-shorter t c = grind (arith, common_steps)
+
+pub arguments-returns-in_err-push-2-clause-read : goal.arguments-returns-in_err-push-2-clause-read
+arguments-returns-in_err-push-2-clause-read t c = grind (arith, common_steps)
+
+pub arguments-returns-in_err-push-2-clause-height : goal.arguments-returns-in_err-push-2-clause-height
+arguments-returns-in_err-push-2-clause-height t c = grind (arith, common_steps)
+
+pub arguments-returns-in_err-push-2-clause-shorter : goal.arguments-returns-in_err-push-2-clause-shorter
+arguments-returns-in_err-push-2-clause-shorter t c = grind (arith, common_steps)
+
+pub arguments-returns-in_err-expect-clause-height : goal.arguments-returns-in_err-expect-clause-height
+arguments-returns-in_err-expect-clause-height t c = grind (arith, common_steps)
+
+pub arguments-returns-in_err-expect-clause-shorter : goal.arguments-returns-in_err-expect-clause-shorter
+arguments-returns-in_err-expect-clause-shorter t c = grind (arith, common_steps)
+
+pub arguments-returns-clause-height : goal.arguments-returns-clause-height
+arguments-returns-clause-height t c = grind (arith, common_steps)
+
+pub expr-returns-then-room-eq0-clause-height : goal.expr-returns-then-room-eq0-clause-height
+expr-returns-then-room-eq0-clause-height t c = grind (arith, common_steps)
+
+pub expr-returns-then-room-eq0-clause-shorter : goal.expr-returns-then-room-eq0-clause-shorter
+expr-returns-then-room-eq0-clause-shorter t c = grind (arith, common_steps)
+
+pub expr-overflow_sub-room : goal.expr-overflow_sub-room
+expr-overflow_sub-room t c = grind (arith, common_steps)
+
+pub expr-operand-requires : goal.expr-operand-requires
+expr-operand-requires t c = grind (arith, common_steps)
+
+pub expr-returns-in_err-left-clause-height : goal.expr-returns-in_err-left-clause-height
+expr-returns-in_err-left-clause-height t c = grind (arith, common_steps)
+
+pub expr-returns-in_err-left-clause-shorter : goal.expr-returns-in_err-left-clause-shorter
+expr-returns-in_err-left-clause-shorter t c = grind (arith, common_steps)
+
+pub expr-returns-then-left-room-clause-height : goal.expr-returns-then-left-room-clause-height
+expr-returns-then-left-room-clause-height t c = grind (arith, common_steps)
+
+pub expr-returns-then-left-room-clause-shorter : goal.expr-returns-then-left-room-clause-shorter
+expr-returns-then-left-room-clause-shorter t c = grind (arith, common_steps)
+
+pub expr-overflow_sub-layer_of : goal.expr-overflow_sub-layer_of
+expr-overflow_sub-layer_of t c = grind (arith, common_steps)
+
+pub expr-overflow_sub-room-in-Some : goal.expr-overflow_sub-room-in-Some
+expr-overflow_sub-room-in-Some t c = grind (arith, common_steps)
+
+pub expr-expr-requires : goal.expr-expr-requires
+expr-expr-requires t c = grind (arith, common_steps)
+
+pub expr-returns-in_err-right-clause-height : goal.expr-returns-in_err-right-clause-height
+expr-returns-in_err-right-clause-height t c = grind (arith, common_steps)
+
+pub expr-returns-in_err-right-clause-shorter : goal.expr-returns-in_err-right-clause-shorter
+expr-returns-in_err-right-clause-shorter t c = grind (arith, common_steps)
+
+pub expr-binary-requires-clause-left : goal.expr-binary-requires-clause-left
+expr-binary-requires-clause-left t c = grind (arith, common_steps)
+
+pub expr-binary-requires-clause-right : goal.expr-binary-requires-clause-right
+expr-binary-requires-clause-right t c = grind (arith, common_steps)
+
+pub expr-same-self : goal.expr-same-self
+expr-same-self t c = grind (arith, common_steps)
+
+pub expr-returns-in_err-left-2-clause-read : goal.expr-returns-in_err-left-2-clause-read
+expr-returns-in_err-left-2-clause-read t c = grind (arith, common_steps)
+
+pub expr-returns-in_err-left-2-clause-height : goal.expr-returns-in_err-left-2-clause-height
+expr-returns-in_err-left-2-clause-height t c = grind (arith, common_steps)
+
+pub expr-returns-in_err-left-2-clause-shorter : goal.expr-returns-in_err-left-2-clause-shorter
+expr-returns-in_err-left-2-clause-shorter t c = grind (arith, common_steps)
+
+pub expr-same-self-in-Some : goal.expr-same-self-in-Some
+expr-same-self-in-Some t c = grind (arith, common_steps)
+
+pub expr-loop-op-smaller : goal.expr-loop-op-smaller
+expr-loop-op-smaller t c = grind (arith, common_steps)
+
+pub expr-returns-clause-height : goal.expr-returns-clause-height
+expr-returns-clause-height t c = grind (arith, common_steps)
+
+pub expr-returns-clause-shorter : goal.expr-returns-clause-shorter
+expr-returns-clause-shorter t c = grind (arith, common_steps)
+
+pub marked-expr-requires : goal.marked-expr-requires
+marked-expr-requires t c = grind (arith, common_steps)
+
+pub marked-returns-in_err-inner-in-OpenParen-clause-height : goal.marked-returns-in_err-inner-in-OpenParen-clause-height
+marked-returns-in_err-inner-in-OpenParen-clause-height t c = grind (arith, common_steps)
+
+pub marked-returns-in_err-inner-in-OpenParen-clause-shorter : goal.marked-returns-in_err-inner-in-OpenParen-clause-shorter
+marked-returns-in_err-inner-in-OpenParen-clause-shorter t c = grind (arith, common_steps)
+
+pub marked-returns-in_err-expect-in-OpenParen-clause-height : goal.marked-returns-in_err-expect-in-OpenParen-clause-height
+marked-returns-in_err-expect-in-OpenParen-clause-height t c = grind (arith, common_steps)
+
+pub marked-returns-in_err-expect-in-OpenParen-clause-shorter : goal.marked-returns-in_err-expect-in-OpenParen-clause-shorter
+marked-returns-in_err-expect-in-OpenParen-clause-shorter t c = grind (arith, common_steps)
+
+pub marked-overflow_add-result : goal.marked-overflow_add-result
+marked-overflow_add-result t c = grind (arith, common_steps)
+
+pub marked-same-self : goal.marked-same-self
+marked-same-self t c = grind (arith, common_steps)
+
+pub marked-returns-in_err-new-in-OpenParen-clause-read : goal.marked-returns-in_err-new-in-OpenParen-clause-read
+marked-returns-in_err-new-in-OpenParen-clause-read t c = grind (arith, common_steps)
+
+pub marked-returns-in_err-new-in-OpenParen-clause-height : goal.marked-returns-in_err-new-in-OpenParen-clause-height
+marked-returns-in_err-new-in-OpenParen-clause-height t c = grind (arith, common_steps)
+
+pub marked-returns-in_err-new-in-OpenParen-clause-shorter : goal.marked-returns-in_err-new-in-OpenParen-clause-shorter
+marked-returns-in_err-new-in-OpenParen-clause-shorter t c = grind (arith, common_steps)
+
+pub marked-same-self-in-OpenParen : goal.marked-same-self-in-OpenParen
+marked-same-self-in-OpenParen t c = grind (arith, common_steps)
+
+pub marked-unary-requires : goal.marked-unary-requires
+marked-unary-requires t c = grind (arith, common_steps)
+
+pub marked-unary-requires-in-Tilde : goal.marked-unary-requires-in-Tilde
+marked-unary-requires-in-Tilde t c = grind (arith, common_steps)
+
+pub marked-unary-requires-in-Exclamation : goal.marked-unary-requires-in-Exclamation
+marked-unary-requires-in-Exclamation t c = grind (arith, common_steps)
+
+pub marked-returns-in_ok-new-in-OpenParen-clause-height : goal.marked-returns-in_ok-new-in-OpenParen-clause-height
+marked-returns-in_ok-new-in-OpenParen-clause-height t c = grind (arith, common_steps)
+
+pub marked-returns-in_ok-new-in-OpenParen-clause-shorter : goal.marked-returns-in_ok-new-in-OpenParen-clause-shorter
+marked-returns-in_ok-new-in-OpenParen-clause-shorter t c = grind (arith, common_steps)
+
+pub marked-returns-in-Minus-clause-height : goal.marked-returns-in-Minus-clause-height
+marked-returns-in-Minus-clause-height t c = grind (arith, common_steps)
+
+pub marked-returns-in-Minus-clause-shorter : goal.marked-returns-in-Minus-clause-shorter
+marked-returns-in-Minus-clause-shorter t c = grind (arith, common_steps)
+
+pub marked-returns-in-Tilde-clause-height : goal.marked-returns-in-Tilde-clause-height
+marked-returns-in-Tilde-clause-height t c = grind (arith, common_steps)
+
+pub marked-returns-in-Tilde-clause-shorter : goal.marked-returns-in-Tilde-clause-shorter
+marked-returns-in-Tilde-clause-shorter t c = grind (arith, common_steps)
+
+pub marked-returns-in-Exclamation-clause-height : goal.marked-returns-in-Exclamation-clause-height
+marked-returns-in-Exclamation-clause-height t c = grind (arith, common_steps)
+
+pub marked-returns-in-Exclamation-clause-shorter : goal.marked-returns-in-Exclamation-clause-shorter
+marked-returns-in-Exclamation-clause-shorter t c = grind (arith, common_steps)
+
+pub named-returns-in_err-name-clause-read : goal.named-returns-in_err-name-clause-read
+named-returns-in_err-name-clause-read t c = grind (arith, common_steps)
+
+pub named-returns-in_err-name-clause-height : goal.named-returns-in_err-name-clause-height
+named-returns-in_err-name-clause-height t c = grind (arith, common_steps)
+
+pub named-returns-in_err-name-clause-shorter : goal.named-returns-in_err-name-clause-shorter
+named-returns-in_err-name-clause-shorter t c = grind (arith, common_steps)
+
+pub named-expr-requires : goal.named-expr-requires
+named-expr-requires t c = grind (arith, common_steps)
+
+pub named-returns-in_err-index-clause-height : goal.named-returns-in_err-index-clause-height
+named-returns-in_err-index-clause-height t c = grind (arith, common_steps)
+
+pub named-returns-in_err-index-clause-shorter : goal.named-returns-in_err-index-clause-shorter
+named-returns-in_err-index-clause-shorter t c = grind (arith, common_steps)
+
+pub named-returns-in_err-expect-clause-height : goal.named-returns-in_err-expect-clause-height
+named-returns-in_err-expect-clause-height t c = grind (arith, common_steps)
+
+pub named-returns-in_err-expect-clause-shorter : goal.named-returns-in_err-expect-clause-shorter
+named-returns-in_err-expect-clause-shorter t c = grind (arith, common_steps)
+
+pub named-overflow_add-result : goal.named-overflow_add-result
+named-overflow_add-result t c = grind (arith, common_steps)
+
+pub named-same-self : goal.named-same-self
+named-same-self t c = grind (arith, common_steps)
+
+pub named-returns-in_err-new-clause-read : goal.named-returns-in_err-new-clause-read
+named-returns-in_err-new-clause-read t c = grind (arith, common_steps)
+
+pub named-returns-in_err-new-clause-height : goal.named-returns-in_err-new-clause-height
+named-returns-in_err-new-clause-height t c = grind (arith, common_steps)
+
+pub named-returns-in_err-new-clause-shorter : goal.named-returns-in_err-new-clause-shorter
+named-returns-in_err-new-clause-shorter t c = grind (arith, common_steps)
+
+pub named-same-self-then-take : goal.named-same-self-then-take
+named-same-self-then-take t c = grind (arith, common_steps)
+
+pub named-returns-then-take-clause-height : goal.named-returns-then-take-clause-height
+named-returns-then-take-clause-height t c = grind (arith, common_steps)
+
+pub named-arguments-requires : goal.named-arguments-requires
+named-arguments-requires t c = grind (arith, common_steps)
+
+pub named-returns-in_err-arguments-clause-height : goal.named-returns-in_err-arguments-clause-height
+named-returns-in_err-arguments-clause-height t c = grind (arith, common_steps)
+
+pub named-returns-in_err-arguments-clause-shorter : goal.named-returns-in_err-arguments-clause-shorter
+named-returns-in_err-arguments-clause-shorter t c = grind (arith, common_steps)
+
+pub named-overflow_add-result-then-take-2 : goal.named-overflow_add-result-then-take-2
+named-overflow_add-result-then-take-2 t c = grind (arith, common_steps)
+
+pub named-returns-then-take-2-clause-height : goal.named-returns-then-take-2-clause-height
+named-returns-then-take-2-clause-height t c = grind (arith, common_steps)
+
+pub named-returns-clause-height : goal.named-returns-clause-height
+named-returns-clause-height t c = grind (arith, common_steps)
+
+pub named-returns-clause-shorter : goal.named-returns-clause-shorter
+named-returns-clause-shorter t c = grind (arith, common_steps)
+
+pub operand-named-requires : goal.operand-named-requires
+operand-named-requires t c = grind (arith, common_steps)
+
+pub operand-marked-requires : goal.operand-marked-requires
+operand-marked-requires t c = grind (arith, common_steps)
+
+pub operand-returns-in-None-clause-height : goal.operand-returns-in-None-clause-height
+operand-returns-in-None-clause-height t c = grind (arith, common_steps)
+
+pub operand-returns-in-None-clause-shorter : goal.operand-returns-in-None-clause-shorter
+operand-returns-in-None-clause-shorter t c = grind (arith, common_steps)
+
+pub operand-returns-in-Number-clause-height : goal.operand-returns-in-Number-clause-height
+operand-returns-in-Number-clause-height t c = grind (arith, common_steps)
+
+pub operand-returns-in-Number-clause-shorter : goal.operand-returns-in-Number-clause-shorter
+operand-returns-in-Number-clause-shorter t c = grind (arith, common_steps)
+
+pub operand-returns-in-Name-clause-height : goal.operand-returns-in-Name-clause-height
+operand-returns-in-Name-clause-height t c = grind (arith, common_steps)
+
+pub operand-returns-in-Name-clause-shorter : goal.operand-returns-in-Name-clause-shorter
+operand-returns-in-Name-clause-shorter t c = grind (arith, common_steps)
+
+pub operand-returns-in-Mark-clause-height : goal.operand-returns-in-Mark-clause-height
+operand-returns-in-Mark-clause-height t c = grind (arith, common_steps)
+
+pub operand-returns-in-Mark-clause-shorter : goal.operand-returns-in-Mark-clause-shorter
+operand-returns-in-Mark-clause-shorter t c = grind (arith, common_steps)
+
+pub unary-expr-requires : goal.unary-expr-requires
+unary-expr-requires t c = grind (arith, common_steps)
+
+pub unary-returns-in_err-inner-clause-height : goal.unary-returns-in_err-inner-clause-height
+unary-returns-in_err-inner-clause-height t c = grind (arith, common_steps)
+
+pub unary-returns-in_err-inner-clause-shorter : goal.unary-returns-in_err-inner-clause-shorter
+unary-returns-in_err-inner-clause-shorter t c = grind (arith, common_steps)
+
+pub unary-overflow_add-result : goal.unary-overflow_add-result
+unary-overflow_add-result t c = grind (arith, common_steps)
+
+pub unary-same-self : goal.unary-same-self
+unary-same-self t c = grind (arith, common_steps)
+
+pub unary-returns-in_err-new-clause-read : goal.unary-returns-in_err-new-clause-read
+unary-returns-in_err-new-clause-read t c = grind (arith, common_steps)
+
+pub unary-returns-in_err-new-clause-height : goal.unary-returns-in_err-new-clause-height
+unary-returns-in_err-new-clause-height t c = grind (arith, common_steps)
+
+pub unary-returns-in_err-new-clause-shorter : goal.unary-returns-in_err-new-clause-shorter
+unary-returns-in_err-new-clause-shorter t c = grind (arith, common_steps)
+
+pub unary-same-self-2 : goal.unary-same-self-2
+unary-same-self-2 t c = grind (arith, common_steps)
+
+pub unary-returns-clause-height : goal.unary-returns-clause-height
+unary-returns-clause-height t c = grind (arith, common_steps)
+
+pub unary-returns-clause-shorter : goal.unary-returns-clause-shorter
+unary-returns-clause-shorter t c = grind (arith, common_steps)
