@@ -1,0 +1,30 @@
+// What holds of every board, the contracts of functions that do nothing.
+
+ghost use Rattle.std.specs.Prelude.{◌++◌, ◌∷◌, Some, ◌≡◌, ℕ, ℤ, List};
+ghost use Rattle.hx_marks.specs.Table.{look};
+ghost use Rattle.hx_code.specs.Local.{LocalView};
+ghost use Rattle.hx_speculation.specs.Iteration.{Store};
+ghost use Rattle.hx_speculation.specs.Region.{Region};
+ghost use Rattle.hx_speculation.specs.Slots.{Slot};
+ghost use Rattle.hx_speculation.specs.Board.{Capacities, Call, after, opened};
+ghost use Rattle.hx_speculation.specs.Sound.{IsSound, HaveTrackedFrames};
+ghost use Rattle.hx_speculation.specs.View.{view};
+ghost use Rattle.hx_speculation.specs.Replay.{Course, replayed, world_at};
+
+/// Whatever calls come, in whichever order and from whichever workers, the board shows a state that the plain region comes to,
+/// or its end, provided that frames which are settled are tracked.
+pub fn every_board()
+    ensures { (r : Region LocalView) (entry : Store) (caps : Capacities) (calls : List (Call LocalView)) → HaveTrackedFrames r calls → IsSound r entry (after r caps calls (opened entry)) }
+{}
+
+/// Whatever the schedule, what is settled is a state that the plain region comes to, or its end. Each entry names a worker: one
+/// without a frame asks for one; another runs a stretch, and hands on what that stopped for.
+pub fn every_schedule()
+    ensures { (c : Course LocalView) (entry : Store) (schedule : List ℕ) → IsSound c.region entry (replayed c schedule (world_at entry)).board }
+{}
+
+/// The value of each mark is what its iteration sees at the word now: that of the nearest earlier iteration that has written it, or
+/// the committed one.
+pub fn marks_are_views()
+    ensures { (r : Region LocalView) (entry : Store) (caps : Capacities) (calls : List (Call LocalView)) (before : List (Slot LocalView)) (x : Slot LocalView) (later : List (Slot LocalView)) (a : ℕ) (v : ℤ) → HaveTrackedFrames r calls → (after r caps calls (opened entry)).active ≡ before ++ x ∷ later → look x.marks a ≡ Some v → view (after r caps calls (opened entry)).store before a ≡ v }
+{}
