@@ -3,6 +3,7 @@
 mod checking;
 mod codes;
 mod forms;
+mod frames;
 mod inputs;
 mod lexing;
 mod listings;

@@ -1,0 +1,4 @@
+pub mod Automaton
+pub mod Action
+pub mod Frame
+pub mod Words

@@ -1,0 +1,68 @@
+// The words of an iteration, as far as it can go by itself.
+
+ghost use Rattle.std.specs.Prelude.{◌≡◌, ◌≢◌};
+ghost use Rattle.hx_code.specs.Local.{asks_of, LocalAsks};
+ghost use Rattle.hx_code.specs.Fits.{FitsLocal, LocalWell, goes_on, MayGoOn};
+ghost use Rattle.hx_marks.specs.Table.{look};
+ghost use Rattle.hx_speculation.specs.View.{or_first};
+ghost use Rattle.hx_frame.specs.Automaton.{ask_in};
+ghost use Rattle.hx_frame.specs.Words.{RanTo, StopsThere, WellAsked};
+
+use crate::action::{Need, waits_with};
+use hx_buffer::WriteBuffer;
+use hx_code::Stretched;
+use hx_code::code::Code;
+use hx_code::local::Local;
+use hx_code::word::Ask;
+use hx_marks::Marks;
+
+// A word of the store, if the iteration has written it, or else if it has read it.
+fn known(marks: &Marks, writes: &WriteBuffer, word: u32) -> Option<i32>
+    ensures { result ≡ or_first (look writes.now.entries word) (look marks.now.entries word) }
+{
+    match writes.get(word) {
+        Some(value) => Some(value),
+        None => marks.get(word),
+    }
+}
+
+/// Does words up to a limit, and stops before one that needs more than what was read and written.
+pub(crate) fn run_words(
+    code: &Code,
+    here: &mut Local,
+    marks: &Marks,
+    writes: &WriteBuffer,
+    limit: u64,
+) -> Need
+    requires { FitsLocal code.now here.old }
+    ensures { RanTo code.now marks.now.entries writes.now.entries limit here.old here.new result }
+{
+    let mut words = 0;
+    while words < limit {
+        let done = here.stretch(code, limit - words);
+        words += done.words;
+        match done.ask {
+            Ask::Goes => {}
+            Ask::Loads(word) => match known(marks, writes, word) {
+                None => return Need::ForLoad(word),
+                Some(value) => {
+                    here.load(code, done.next, value);
+                    words += 1;
+                }
+            },
+            Ask::Stores(word, value) => return Need::ForStore(word, value),
+            ask => return Need::ForHead(waits_with(ask)),
+        }
+    }
+    Need::Nothing
+}
+
+/// What the next word asks, of one that asks something; nothing changes.
+pub(crate) fn asked(code: &Code, here: &mut Local) -> Stretched
+    requires fits { FitsLocal code.now here.old }
+    requires stops { StopsThere code.now here.old }
+    ensures same { here.new ≡ here.old }
+    ensures well { WellAsked code.now here.old result.ask result.next }
+{
+    here.stretch(code, 1)
+}

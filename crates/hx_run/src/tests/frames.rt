@@ -1,0 +1,94 @@
+// A frame by its own calls: one iteration of a marked loop, as a worker runs it by itself.
+
+ghost use Rattle.std.specs.Prelude.{IfOk};
+ghost use Rattle.hx_code.specs.Fits.{FitsLocal};
+
+use crate::compile;
+use hx_code::code::Code;
+use hx_code::local::Local;
+use hx_frame::action::{Action, Stop};
+use hx_frame::frame::{Capacities, Frame, Tag};
+use std::alloc::Global;
+use std::test::Fail;
+
+fn code_of(alloc: Global, source: &[u8]) -> Result<Code, Fail> {
+    match compile(alloc, source) {
+        Ok(code) => Ok(code),
+        Err(_) => Err(Fail::from("refused")),
+    }
+}
+
+// Where each iteration of the only region begins.
+fn start_of(alloc: Global, code: &Code) -> Result<Local, Fail>
+    ensures { IfOk result (λ l. FitsLocal code.now l) }
+{
+    if code.regions().len() != 1 {
+        return Err(Fail::from("one region is wanted"));
+    }
+    let mut start = Local::new(alloc, code)?;
+    start.begin(code, 0, 0, &[0; 64]);
+    Ok(start)
+}
+
+#[test]
+fn a_turn_asks_for_one_load_and_one_store(rt: HostRuntime) -> Result<(), Fail> {
+    let code = code_of(rt.alloc(), b"int c; int main(){ pwhile(c<2){ c=c+1; } }")?;
+    let start = start_of(rt.alloc(), &code)?;
+    let room = Capacities {
+        marks: 1,
+        buffer: 1,
+    };
+    let tag = Tag {
+        worker: 1,
+        iteration: 5,
+        attempt: 2,
+    };
+    let mut frame = Frame::new(rt.alloc(), &code, room)?;
+    frame.restart(&start);
+    frame.tag(1, 5, 2);
+    assert_eq!(rt; frame.run(1024), Stop::NeedLoad(0));
+    frame.loaded(0);
+    assert_eq!(rt; frame.run(1), Stop::Limit);
+    assert_eq!(rt; frame.run(1024), Stop::NeedStore(0, 1));
+    frame.stored();
+    assert_eq!(rt; frame.run(1024), Stop::NeedHead(Action::TurnEnd));
+    assert_eq!(rt; frame.action(), Action::TurnEnd);
+    assert_eq!(rt;
+        [frame.marks().get(0), frame.writes().get(0)],
+        [Some(0), Some(1)]
+    );
+    assert_eq!(rt; frame.tagged(), tag);
+    assert_eq!(rt; frame.capacities(), room);
+    Ok(())
+}
+
+#[test]
+fn what_waits_goes_on_behind(rt: HostRuntime) -> Result<(), Fail> {
+    let code = code_of(
+        rt.alloc(),
+        b"int c; int main(){ pwhile(c<1){ print(c); emit(65); c=5; } }",
+    )?;
+    let room = Capacities {
+        marks: 1,
+        buffer: 1,
+    };
+    let mut frame = Frame::new(rt.alloc(), &code, room)?;
+    frame.restart(&start_of(rt.alloc(), &code)?);
+    assert_eq!(rt; frame.run(1024), Stop::NeedLoad(0));
+    frame.hold();
+    assert_eq!(rt; frame.run(1024), Stop::NeedHead(Action::None));
+    frame.advance();
+    assert_eq!(rt; frame.run(1024), Stop::NeedLoad(0));
+    frame.loaded(0);
+    assert_eq!(rt; frame.run(1024), Stop::NeedHead(Action::Print(0)));
+    frame.advance();
+    assert_eq!(rt; frame.marks().get(0), None);
+    assert_eq!(rt; frame.run(1024), Stop::NeedHead(Action::Emit(65)));
+    frame.advance();
+    assert_eq!(rt; frame.run(1024), Stop::NeedStore(0, 5));
+    frame.hold();
+    assert_eq!(rt; frame.run(1024), Stop::NeedHead(Action::None));
+    let shown = [frame.code().regions().len(), frame.start().calls()];
+    assert_eq!(rt; shown, [1, 1]);
+    Ok(())
+}
