@@ -23,7 +23,7 @@ pub struct Capacities {
     pub buffer: u32,
 }
 
-/// Whose iteration it is, which, and the how manieth attempt at it.
+/// Whose iteration it is, which, and which attempt at it.
 #[derive(Clone, Copy, PartialEq, Eq, Debug)]
 pub struct Tag {
     pub worker: u32,
@@ -94,7 +94,7 @@ impl<'c> Frame<'c> {
         self.need = Need::Nothing;
     }
 
-    /// Says whose iteration it is, which, and the how manieth attempt; nothing else changes.
+    /// Says whose iteration it is, which, and which attempt at it; nothing else changes.
     pub fn tag(&mut self, worker: u32, iteration: u64, attempt: u64)
         ensures { self.new ≡ record self.old { frame = tagged worker iteration attempt self.old.frame } }
     {
@@ -194,7 +194,7 @@ impl<'c> Frame<'c> {
         self.capacities
     }
 
-    /// Whose iteration it is, which, and the how manieth attempt.
+    /// Whose iteration it is, which, and which attempt at it.
     pub fn tagged(&self) -> Tag
         ensures { result ≡ record { worker = self.now.frame.worker; iteration = self.now.frame.iteration; attempt = self.now.frame.attempt } }
     {
