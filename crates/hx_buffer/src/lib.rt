@@ -3,7 +3,5 @@
 #![tactic(auto)]
 
 pub mod buffer;
-#[cfg(test)]
-mod tests;
 
 pub use buffer::WriteBuffer;

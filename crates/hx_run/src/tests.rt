@@ -12,4 +12,5 @@ mod parsing;
 mod paths;
 mod regions;
 mod rows;
+mod tables;
 mod trees;

@@ -57,6 +57,13 @@ fn number_option<'a>(alloc: Global, name: &'a str, default: &'a str, help: &'a s
         .default_value(default)
 }
 
+fn with_argument<'a>(
+    command: Result<Command<'a>, AllocError>,
+    argument: Arg<'a>,
+) -> Result<Command<'a>, AllocError> {
+    command?.arg(argument)
+}
+
 fn run_command<'a>(alloc: Global) -> Result<Command<'a>, AllocError> {
     let workers = number_option(
         alloc,
@@ -64,9 +71,9 @@ fn run_command<'a>(alloc: Global) -> Result<Command<'a>, AllocError> {
         "2",
         "Workers for the marked loops, 1 or 2; their turns go one after another today",
     );
-    command_on_file(alloc, "run", "Runs a program and prints what it prints")?
-        .arg(input_option(alloc))?
-        .arg(workers.value_parser(value_parser!(u32)))
+    let run = command_on_file(alloc, "run", "Runs a program and prints what it prints");
+    let run = with_argument(run, input_option(alloc));
+    with_argument(run, workers.value_parser(value_parser!(u32)))
 }
 
 fn plain_command<'a>(alloc: Global) -> Result<Command<'a>, AllocError> {
@@ -76,27 +83,41 @@ fn plain_command<'a>(alloc: Global) -> Result<Command<'a>, AllocError> {
         "1000000000",
         "How many words of the machine are run at the most",
     );
-    command_on_file(alloc, "plain", "Runs a program word by word on one thread")?
-        .arg(input_option(alloc))?
-        .arg(steps.value_parser(value_parser!(u64)))
+    let plain = command_on_file(alloc, "plain", "Runs a program word by word on one thread");
+    let plain = with_argument(plain, input_option(alloc));
+    with_argument(plain, steps.value_parser(value_parser!(u64)))
+}
+
+// The program's own, without its commands.
+fn bare_command<'a>(alloc: Global) -> Result<Command<'a>, AllocError> {
+    let hydra = Command::new(alloc, "hydra").bin_name("hydra")?;
+    Ok(
+        hydra
+            .about(
+                "Compiles and runs programs of a small integer C whose loops 'pfor' and 'pwhile' may run speculatively, and always answers what one thread would",
+            )
+            .subcommand_required(true)
+            .arg_required_else_help(true),
+    )
+}
+
+fn with_command<'a>(
+    above: Result<Command<'a>, AllocError>,
+    below: Result<Command<'a>, AllocError>,
+) -> Result<Command<'a>, AllocError> {
+    above?.subcommand(below?)
 }
 
 fn hydra_command<'a>(alloc: Global) -> Result<Command<'a>, AllocError> {
-    Command::new(alloc, "hydra")
-        .bin_name("hydra")?
-        .about(
-            "Compiles and runs programs of a small integer C whose loops 'pfor' and 'pwhile' may run speculatively, and always answers what one thread would",
-        )
-        .subcommand_required(true)
-        .arg_required_else_help(true)
-        .subcommand(run_command(alloc)?)?
-        .subcommand(plain_command(alloc)?)?
-        .subcommand(command_on_file(alloc, "check", "Says 'ok' where a program is accepted")?)?
-        .subcommand(command_on_file(
-            alloc,
-            "words",
-            "Lists the words that a program is compiled to",
-        )?)
+    let check = command_on_file(alloc, "check", "Says 'ok' where a program is accepted");
+    let words = command_on_file(
+        alloc,
+        "words",
+        "Lists the words that a program is compiled to",
+    );
+    let hydra = with_command(bare_command(alloc), run_command(alloc));
+    let hydra = with_command(hydra, plain_command(alloc));
+    with_command(with_command(hydra, check), words)
 }
 
 fn paths_of<'a>(matches: &ArgMatches<'a>) -> Paths<'a> {
@@ -110,26 +131,30 @@ fn source_of<'a>(matches: &ArgMatches<'a>) -> &'a str {
     matches.get_str("FILE").unwrap_or("")
 }
 
+fn request_of<'a>(name: &str, inner: &ArgMatches<'a>) -> Option<Request<'a>> {
+    if name == "run" {
+        let workers = inner.get_one::<u32>("workers").unwrap_or(DEFAULT_WORKERS);
+        Some(Request::Run(paths_of(inner), workers))
+    } else if name == "plain" {
+        let steps = inner.get_one::<u64>("steps").unwrap_or(DEFAULT_STEPS);
+        Some(Request::Plain(paths_of(inner), steps))
+    } else if name == "check" {
+        Some(Request::Check(source_of(inner)))
+    } else if name == "words" {
+        Some(Request::Words(source_of(inner)))
+    } else {
+        None
+    }
+}
+
 /// Reads a command line, or tells what is wrong with it. `None` stands for a line that names no command.
 pub(crate) fn read_words<'a, S: AsStr>(
     alloc: Global,
     words: &'a [S],
 ) -> Result<Option<Request<'a>>, Error> {
     let matches = hydra_command(alloc)?.try_get_matches_from(words)?;
-    let Some((name, inner)) = matches.subcommand() else {
-        return Ok(None);
-    };
-    if name == "run" {
-        let workers = inner.get_one::<u32>("workers").unwrap_or(DEFAULT_WORKERS);
-        Ok(Some(Request::Run(paths_of(inner), workers)))
-    } else if name == "plain" {
-        let steps = inner.get_one::<u64>("steps").unwrap_or(DEFAULT_STEPS);
-        Ok(Some(Request::Plain(paths_of(inner), steps)))
-    } else if name == "check" {
-        Ok(Some(Request::Check(source_of(inner))))
-    } else if name == "words" {
-        Ok(Some(Request::Words(source_of(inner))))
-    } else {
-        Ok(None)
+    match matches.subcommand() {
+        Some((name, inner)) => Ok(request_of(name, inner)),
+        None => Ok(None),
     }
 }

@@ -42,6 +42,21 @@ fn expect(rt: &impl Abort, found: &Shown, out: &[u8], err: &[u8], status: u8) {
     assert_eq!(rt; found.status, status);
 }
 
+// That a command on a file of this source writes this and ends with this status.
+fn shows<R: Abort + Files + AllocGlobal + Wait>(
+    rt: &R,
+    path: &str,
+    source: &[u8],
+    words: &[&str],
+    out: &[u8],
+    err: &[u8],
+    status: u8,
+) -> Result<(), Fail> {
+    let found = on_source(rt, path, source, words)?;
+    expect(rt, &found, out, err, status);
+    Ok(())
+}
+
 const COUNT: &[u8] = b"int c; int main(){ pwhile(c<3){ print(c); c=c+1; } }";
 
 const TWO_TURNS: &[u8] = b"int c; int main(){ pwhile(c<2){ c=c+1; } }";
@@ -54,52 +69,110 @@ const SUM: &[u8] =
 #[test]
 fn runs_programs(rt: HostRuntime) -> Result<(), Fail> {
     let p = "hydra-test-runs.hc";
-    let found = on_source(&rt, p, COUNT, &["hydra", "run", p, "--workers", "2"])?;
-    expect(&rt, &found, b"0\n1\n2\n", b"", 0);
-    let found = on_source(&rt, p, COUNT, &["hydra", "plain", p])?;
-    expect(&rt, &found, b"0\n1\n2\n", b"", 0);
-    let found = on_source(&rt, p, PAST_THE_END, &["hydra", "run", p])?;
-    expect(&rt, &found, b"0\n1\n2\n3\n", b"hydra: fault 2 at 1:46\n", 1);
+    shows(
+        &rt,
+        p,
+        COUNT,
+        &["hydra", "run", p, "--workers", "2"],
+        b"0\n1\n2\n",
+        b"",
+        0,
+    )?;
+    shows(&rt, p, COUNT, &["hydra", "plain", p], b"0\n1\n2\n", b"", 0)?;
+    shows(
+        &rt,
+        p,
+        PAST_THE_END,
+        &["hydra", "run", p],
+        b"0\n1\n2\n3\n",
+        b"hydra: fault 2 at 1:46\n",
+        1,
+    )?;
     Ok(())
 }
 
 #[test]
 fn refuses_sources(rt: HostRuntime) -> Result<(), Fail> {
     let p = "hydra-test-refuses.hc";
-    let found = on_source(&rt, p, b"int main(){ print(1) }", &["hydra", "run", p])?;
-    expect(&rt, &found, b"", b"hydra: refused 10 at 1:22\n", 2);
-    let found = on_source(&rt, p, b"int main(){ break; }", &["hydra", "check", p])?;
-    expect(&rt, &found, b"", b"hydra: refused 24 at 1:13\n", 2);
-    let found = on_source(&rt, p, b"", &["hydra", "words", p])?;
-    expect(&rt, &found, b"", b"hydra: refused 25\n", 2);
-    let found = on_source(&rt, p, COUNT, &["hydra", "run", p, "--workers", "0"])?;
-    expect(&rt, &found, b"", b"hydra: refused 60\n", 2);
-    let found = on_source(&rt, p, COUNT, &["hydra", "check", p])?;
-    expect(&rt, &found, b"ok\n", b"", 0);
+    shows(
+        &rt,
+        p,
+        b"int main(){ print(1) }",
+        &["hydra", "run", p],
+        b"",
+        b"hydra: refused 10 at 1:22\n",
+        2,
+    )?;
+    shows(
+        &rt,
+        p,
+        b"int main(){ break; }",
+        &["hydra", "check", p],
+        b"",
+        b"hydra: refused 24 at 1:13\n",
+        2,
+    )?;
+    shows(
+        &rt,
+        p,
+        b"",
+        &["hydra", "words", p],
+        b"",
+        b"hydra: refused 25\n",
+        2,
+    )?;
+    shows(
+        &rt,
+        p,
+        COUNT,
+        &["hydra", "run", p, "--workers", "0"],
+        b"",
+        b"hydra: refused 60\n",
+        2,
+    )?;
+    shows(&rt, p, COUNT, &["hydra", "check", p], b"ok\n", b"", 0)?;
     Ok(())
 }
 
 #[test]
 fn counts_steps(rt: HostRuntime) -> Result<(), Fail> {
     let p = "hydra-test-steps.hc";
-    let found = on_source(
+    shows(
         &rt,
         p,
         b"int main(){}",
         &["hydra", "plain", p, "--steps", "1"],
+        b"",
+        b"hydra: not ended after 1 steps\n",
+        2,
     )?;
-    expect(&rt, &found, b"", b"hydra: not ended after 1 steps\n", 2);
-    let found = on_source(
+    shows(
         &rt,
         p,
         b"int main(){}",
         &["hydra", "plain", p, "--steps", "2"],
+        b"",
+        b"",
+        0,
     )?;
-    expect(&rt, &found, b"", b"", 0);
-    let found = on_source(&rt, p, TWO_TURNS, &["hydra", "plain", p, "--steps", "25"])?;
-    expect(&rt, &found, b"", b"hydra: not ended after 25 steps\n", 2);
-    let found = on_source(&rt, p, TWO_TURNS, &["hydra", "plain", p, "--steps", "26"])?;
-    expect(&rt, &found, b"", b"", 0);
+    shows(
+        &rt,
+        p,
+        TWO_TURNS,
+        &["hydra", "plain", p, "--steps", "25"],
+        b"",
+        b"hydra: not ended after 25 steps\n",
+        2,
+    )?;
+    shows(
+        &rt,
+        p,
+        TWO_TURNS,
+        &["hydra", "plain", p, "--steps", "26"],
+        b"",
+        b"",
+        0,
+    )?;
     Ok(())
 }
 
@@ -109,36 +182,32 @@ fn reads_input(rt: HostRuntime) -> Result<(), Fail> {
     let i = "hydra-test-input.in";
     let words = ["hydra", "run", p, "--input", i];
     fs::write(&rt, i, b"5 -7")?;
-    let found = on_source(&rt, p, SUM, &words)?;
-    expect(&rt, &found, b"-2\n", b"", 0);
+    shows(&rt, p, SUM, &words, b"-2\n", b"", 0)?;
     fs::write(&rt, i, b"1 2 3 4")?;
-    let found = on_source(&rt, p, SUM, &words)?;
-    expect(&rt, &found, b"", b"hydra: refused 61\n", 2);
+    shows(&rt, p, SUM, &words, b"", b"hydra: refused 61\n", 2)?;
     fs::write(&rt, i, b"07")?;
-    let found = on_source(&rt, p, SUM, &words)?;
-    expect(&rt, &found, b"", b"hydra: refused 65\n", 2);
+    shows(&rt, p, SUM, &words, b"", b"hydra: refused 65\n", 2)?;
     fs::remove_file(&rt, i)?;
-    let found = on_source(&rt, p, SUM, &words)?;
-    expect(&rt, &found, b"", b"hydra: read failed\n", 4);
+    shows(&rt, p, SUM, &words, b"", b"hydra: read failed\n", 4)?;
     Ok(())
 }
 
 #[test]
 fn lists_words(rt: HostRuntime) -> Result<(), Fail> {
     let p = "hydra-test-words.hc";
-    let found = on_source(&rt, p, b"int main(){}", &["hydra", "words", p])?;
-    expect(
+    shows(
         &rt,
-        &found,
+        p,
+        b"int main(){}",
+        &["hydra", "words", p],
         b"globals 0\nfunc main 0 0 0\n0 const 0\n1 ret\n",
         b"",
         0,
-    );
-    let found = on_source(&rt, p, TWO_TURNS, &["hydra", "words", p])?;
+    )?;
     let wanted = b"globals 1\nfunc main 0 0 0\nregion 1 20 carried copied\n\
 0 enter 0 11\n1 glob 0\n2 const 2\n3 lt\n4 jfalse 10\n5 glob 0\n6 const 1\n7 add\n8 setglob 0\n9 turn\n10 leave\n\
 11 glob 0\n12 const 2\n13 lt\n14 jfalse 20\n15 glob 0\n16 const 1\n17 add\n18 setglob 0\n19 jump 11\n20 const 0\n21 ret\n";
-    expect(&rt, &found, wanted, b"", 0);
+    shows(&rt, p, TWO_TURNS, &["hydra", "words", p], wanted, b"", 0)?;
     Ok(())
 }
 

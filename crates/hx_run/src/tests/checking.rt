@@ -3,7 +3,7 @@
 use crate::{Refusal, compile};
 use hx_check::check::check;
 use hx_check::checked::Checked;
-use hx_check::resolved::{LoopKind, Stmt, Words};
+use hx_check::resolved::{LoopKind, Program, Stmt, Words};
 use hx_lex::tokens;
 use hx_parse::parse;
 use std::alloc::Global;
@@ -275,27 +275,16 @@ fn operands(rt: HostRuntime) -> Result<(), Fail> {
 // Parameters count among the private words, and a 26 comes before the faults of its body.
 #[test]
 fn private_words(rt: HostRuntime) -> Result<(), Fail> {
-    let alloc = rt.alloc();
-    let most = repeated(alloc, b"int main(){ ", b"{int x;}", 64, b"}")?;
-    assert_eq!(rt; answer(alloc, &most), (0, 0));
-    let more = repeated(alloc, b"int main(){ y=1; ", b"{int x;}", 65, b"}")?;
-    assert_eq!(rt; answer(alloc, &more), (26, 5));
-    let most = repeated(
-        alloc,
-        b"int f(int a,int b){",
-        b"{int x;}",
-        62,
-        b"} int main(){}",
-    )?;
-    assert_eq!(rt; answer(alloc, &most), (0, 0));
-    let more = repeated(
-        alloc,
-        b"int f(int a,int b){",
-        b"{int x;}",
-        63,
-        b"} int main(){}",
-    )?;
-    assert_eq!(rt; answer(alloc, &more), (26, 5));
+    let rows: [(&[u8], usize, &[u8], u32, u32); 4] = [
+        (b"int main(){ ", 64, b"}", 0, 0),
+        (b"int main(){ y=1; ", 65, b"}", 26, 5),
+        (b"int f(int a,int b){", 62, b"} int main(){}", 0, 0),
+        (b"int f(int a,int b){", 63, b"} int main(){}", 26, 5),
+    ];
+    for (before, count, after, number, col) in rows {
+        let source = repeated(rt.alloc(), before, b"{int x;}", count, after)?;
+        assert_eq!(rt; answer(rt.alloc(), &source), (number, col));
+    }
     Ok(())
 }
 
@@ -382,26 +371,25 @@ fn regions(rt: HostRuntime) -> Result<(), Fail> {
     expect_taken(&rt, rt.alloc(), source, &[1, 0, 0, 0, 1, 0])
 }
 
-#[test]
-fn resolves(rt: HostRuntime) -> Result<(), Fail> {
-    let alloc = rt.alloc();
-    let source = b"int x=7; int in[3]={-2,5}; int n_in; void f(int a){ int b; } int main(){}";
-    match checked(alloc, source) {
-        Ok(checked) => {
-            let program = checked.program();
-            assert_eq!(rt; program.main, 1);
-            assert_eq!(rt; program.opening.as_slice(), [7, -2, 5, 0, 0].as_slice());
-            assert_eq!(rt; program.input, Some(Words { base: 1, length: 3 }));
-            assert_eq!(rt; program.input_length, Some(4));
-            match program.functions.first() {
-                Some(f) => {
-                    assert_eq!(rt; f.name.as_slice(), b"f".as_slice());
-                    assert_eq!(rt; (f.parameters, f.privates, f.need), (1, 2, 1));
-                }
-                None => assert_eq!(rt; program.functions.len(), 2),
-            }
+fn is_resolved(rt: &impl Abort, program: &Program) {
+    assert_eq!(rt; program.main, 1);
+    assert_eq!(rt; program.opening.as_slice(), [7, -2, 5, 0, 0].as_slice());
+    assert_eq!(rt; program.input, Some(Words { base: 1, length: 3 }));
+    assert_eq!(rt; program.input_length, Some(4));
+    match program.functions.first() {
+        Some(f) => {
+            assert_eq!(rt; f.name.as_slice(), b"f".as_slice());
+            assert_eq!(rt; (f.parameters, f.privates, f.need), (1, 2, 1));
         }
+        None => assert_eq!(rt; program.functions.len(), 2),
+    }
+}
+
+#[test]
+fn resolves(rt: HostRuntime) {
+    let source = b"int x=7; int in[3]={-2,5}; int n_in; void f(int a){ int b; } int main(){}";
+    match checked(rt.alloc(), source) {
+        Ok(checked) => is_resolved(&rt, checked.program()),
         Err(refusal) => assert_eq!(rt; refusal.number(), 0),
     }
-    Ok(())
 }

@@ -9,6 +9,7 @@ use hx_code::local::Local;
 use hx_frame::action::{Action, Stop};
 use hx_frame::frame::{Capacities, Frame, Tag};
 use std::alloc::Global;
+use std::process::Abort;
 use std::test::Fail;
 
 fn code_of(alloc: Global, source: &[u8]) -> Result<Code, Fail> {
@@ -30,6 +31,37 @@ fn start_of(alloc: Global, code: &Code) -> Result<Local, Fail>
     Ok(start)
 }
 
+fn stops(rt: &impl Abort, frame: &mut Frame<'_>, limit: u64, wanted: Stop) {
+    assert_eq!(rt; frame.run(limit), wanted);
+}
+
+// What it marked of a word as read, and what it wrote there.
+fn has(rt: &impl Abort, frame: &Frame<'_>, word: u32, marked: Option<i32>, written: Option<i32>) {
+    assert_eq!(rt; frame.marks().get(word), marked);
+    assert_eq!(rt; frame.writes().get(word), written);
+}
+
+fn is_tagged(rt: &impl Abort, frame: &Frame<'_>, tag: Tag, room: Capacities) {
+    assert_eq!(rt; frame.tagged(), tag);
+    assert_eq!(rt; frame.capacities(), room);
+}
+
+fn shows(rt: &impl Abort, frame: &Frame<'_>, action: Action, regions: usize, calls: usize) {
+    assert_eq!(rt; frame.action(), action);
+    assert_eq!(rt; frame.code().regions().len(), regions);
+    assert_eq!(rt; frame.start().calls(), calls);
+}
+
+// A turn that adds one to the only word.
+fn adds_one(rt: &impl Abort, frame: &mut Frame<'_>) {
+    stops(rt, frame, 1024, Stop::NeedLoad(0));
+    frame.loaded(0);
+    stops(rt, frame, 1, Stop::Limit);
+    stops(rt, frame, 1024, Stop::NeedStore(0, 1));
+    frame.stored();
+    stops(rt, frame, 1024, Stop::NeedHead(Action::TurnEnd));
+}
+
 #[test]
 fn a_turn_asks_for_one_load_and_one_store(rt: HostRuntime) -> Result<(), Fail> {
     let code = code_of(rt.alloc(), b"int c; int main(){ pwhile(c<2){ c=c+1; } }")?;
@@ -46,20 +78,29 @@ fn a_turn_asks_for_one_load_and_one_store(rt: HostRuntime) -> Result<(), Fail> {
     let mut frame = Frame::new(rt.alloc(), &code, room)?;
     frame.restart(&start);
     frame.tag(1, 5, 2);
-    assert_eq!(rt; frame.run(1024), Stop::NeedLoad(0));
-    frame.loaded(0);
-    assert_eq!(rt; frame.run(1), Stop::Limit);
-    assert_eq!(rt; frame.run(1024), Stop::NeedStore(0, 1));
-    frame.stored();
-    assert_eq!(rt; frame.run(1024), Stop::NeedHead(Action::TurnEnd));
-    assert_eq!(rt; frame.action(), Action::TurnEnd);
-    assert_eq!(rt;
-        [frame.marks().get(0), frame.writes().get(0)],
-        [Some(0), Some(1)]
-    );
-    assert_eq!(rt; frame.tagged(), tag);
-    assert_eq!(rt; frame.capacities(), room);
+    adds_one(&rt, &mut frame);
+    has(&rt, &frame, 0, Some(0), Some(1));
+    shows(&rt, &frame, Action::TurnEnd, 1, 1);
+    is_tagged(&rt, &frame, tag, room);
     Ok(())
+}
+
+// A turn that waits at each thing that it asks for, and goes on behind it.
+fn waits(rt: &impl Abort, frame: &mut Frame<'_>) {
+    stops(rt, frame, 1024, Stop::NeedLoad(0));
+    frame.hold();
+    stops(rt, frame, 1024, Stop::NeedHead(Action::None));
+    frame.advance();
+    stops(rt, frame, 1024, Stop::NeedLoad(0));
+    frame.loaded(0);
+    stops(rt, frame, 1024, Stop::NeedHead(Action::Print(0)));
+    frame.advance();
+    has(rt, frame, 0, None, None);
+    stops(rt, frame, 1024, Stop::NeedHead(Action::Emit(65)));
+    frame.advance();
+    stops(rt, frame, 1024, Stop::NeedStore(0, 5));
+    frame.hold();
+    stops(rt, frame, 1024, Stop::NeedHead(Action::None));
 }
 
 #[test]
@@ -74,21 +115,7 @@ fn what_waits_goes_on_behind(rt: HostRuntime) -> Result<(), Fail> {
     };
     let mut frame = Frame::new(rt.alloc(), &code, room)?;
     frame.restart(&start_of(rt.alloc(), &code)?);
-    assert_eq!(rt; frame.run(1024), Stop::NeedLoad(0));
-    frame.hold();
-    assert_eq!(rt; frame.run(1024), Stop::NeedHead(Action::None));
-    frame.advance();
-    assert_eq!(rt; frame.run(1024), Stop::NeedLoad(0));
-    frame.loaded(0);
-    assert_eq!(rt; frame.run(1024), Stop::NeedHead(Action::Print(0)));
-    frame.advance();
-    assert_eq!(rt; frame.marks().get(0), None);
-    assert_eq!(rt; frame.run(1024), Stop::NeedHead(Action::Emit(65)));
-    frame.advance();
-    assert_eq!(rt; frame.run(1024), Stop::NeedStore(0, 5));
-    frame.hold();
-    assert_eq!(rt; frame.run(1024), Stop::NeedHead(Action::None));
-    let shown = [frame.code().regions().len(), frame.start().calls()];
-    assert_eq!(rt; shown, [1, 1]);
+    waits(&rt, &mut frame);
+    shows(&rt, &frame, Action::None, 1, 1);
     Ok(())
 }

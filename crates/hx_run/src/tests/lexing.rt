@@ -1,8 +1,9 @@
 // Sources and their tokens, worked out by hand from the language's rules, and the texts of the lexer's refusals.
 
-use hx_lex::{LexError, Span, tokens};
+use hx_lex::{LexError, Span, Token, tokens};
 use hx_tree::token::{Kind, Mark, Pos};
 use std::alloc::{AllocError, Global};
+use std::process::Abort;
 use std::test::Fail;
 
 const KEYWORDS: [(&[u8], Mark); 13] = [
@@ -141,15 +142,21 @@ fn is_same(a: &[u8], b: &[u8]) -> bool {
     a == b
 }
 
-/// What two punctuators with nothing between them are read as.
-fn pair_texts(alloc: Global, first: &[u8], second: &[u8]) -> Result<Vec<u8>, LexError> {
-    let mut all = Vec::new(alloc);
+fn merged(first: &[u8], second: &[u8]) -> Option<&'static [u8]> {
     for entry in &MERGED {
         if is_same(entry.0, first) && is_same(entry.1, second) {
-            all.extend_from_slice(entry.2)?;
-            return Ok(all);
+            return Some(entry.2);
         }
     }
+    None
+}
+
+/// What two punctuators with nothing between them are read as.
+fn pair_texts(alloc: Global, first: &[u8], second: &[u8]) -> Result<Vec<u8>, AllocError> {
+    if let Some(text) = merged(first, second) {
+        return text.to_vec(alloc);
+    }
+    let mut all = Vec::new(alloc);
     all.extend_from_slice(first)?;
     all.push(b' ')?;
     all.extend_from_slice(second)?;
@@ -166,6 +173,21 @@ fn refusal(alloc: Global, source: &[u8]) -> (u32, u32, u32) {
             None => (e.number(), 0, 0),
         },
     }
+}
+
+fn expect_texts(
+    rt: &impl Abort,
+    alloc: Global,
+    source: &[u8],
+    wanted: &[u8],
+) -> Result<(), LexError> {
+    let read = texts(alloc, source)?;
+    assert_eq!(rt; read.as_slice(), wanted, "{source:?}");
+    Ok(())
+}
+
+fn expect_refusal(rt: &impl Abort, alloc: Global, source: &[u8], wanted: (u32, u32, u32)) {
+    assert_eq!(rt; refusal(alloc, source), wanted, "{source:?}");
 }
 
 /// That a source is one token of this kind.
@@ -213,9 +235,8 @@ fn each_mark_before_each_other(rt: HostRuntime) -> Result<(), Fail> {
             let mut source = Vec::new(rt.alloc());
             source.extend_from_slice(first.0)?;
             source.extend_from_slice(second.0)?;
-            let read = texts(rt.alloc(), source.as_slice())?;
             let wanted = pair_texts(rt.alloc(), first.0, second.0)?;
-            assert_eq!(rt; read.as_slice(), wanted.as_slice());
+            expect_texts(&rt, rt.alloc(), source.as_slice(), wanted.as_slice())?;
         }
     }
     Ok(())
@@ -261,13 +282,14 @@ fn constants(rt: HostRuntime) {
         b"1_",
         b"0_",
     ] {
-        assert_eq!(rt; refusal(rt.alloc(), text), (2, 1, 1), "{text:?}");
+        expect_refusal(&rt, rt.alloc(), text, (2, 1, 1));
     }
-    assert_eq!(rt; refusal(rt.alloc(), b"int main(){ int x=08; }"), (2, 1, 19));
+    expect_refusal(&rt, rt.alloc(), b"int main(){ int x=08; }", (2, 1, 19));
 }
 
 #[test]
 fn white_space_and_comments(rt: HostRuntime) -> Result<(), Fail> {
+    let alloc = rt.alloc();
     let none = [
         b"".as_slice(),
         b" \t\r\n",
@@ -280,60 +302,60 @@ fn white_space_and_comments(rt: HostRuntime) -> Result<(), Fail> {
         b"/*\n*\n/ **/",
     ];
     for source in none {
-        assert_eq!(rt; texts(rt.alloc(), source)?.len(), 0, "{source:?}");
+        expect_texts(&rt, alloc, source, b"")?;
     }
-    assert_eq!(rt;
-        texts(rt.alloc(), b"a/*$*/b//c\nd")?.as_slice(),
-        b"a b d ".as_slice()
-    );
-    assert_eq!(rt;
-        texts(rt.alloc(), b"a/b/ /c*/d")?.as_slice(),
-        b"a / b / / c * / d ".as_slice()
-    );
-    assert_eq!(rt;
-        texts(rt.alloc(), b"/**/*/**/")?.as_slice(),
-        b"* ".as_slice()
-    );
+    expect_texts(&rt, alloc, b"a/*$*/b//c\nd", b"a b d ")?;
+    expect_texts(&rt, alloc, b"a/b/ /c*/d", b"a / b / / c * / d ")?;
+    expect_texts(&rt, alloc, b"/**/*/**/", b"* ")?;
     for source in [b"/* x".as_slice(), b"/*", b"/*/", b"/* *", b"/* * /"] {
-        assert_eq!(rt; refusal(rt.alloc(), source), (3, 1, 1), "{source:?}");
+        expect_refusal(&rt, alloc, source, (3, 1, 1));
     }
-    assert_eq!(rt; refusal(rt.alloc(), b"a\n /*\n"), (3, 2, 2));
+    expect_refusal(&rt, alloc, b"a\n /*\n", (3, 2, 2));
     Ok(())
+}
+
+/// That a byte is read as it is to be: as a token, as white space or not at all.
+fn expect_byte(rt: &impl Abort, b: u8, answer: (u32, u32, u32), is_token: bool) {
+    match b {
+        b'\t' | b'\n' | b'\r' | b' ' => assert!(rt; answer == (0, 0, 0) && !is_token, "{b}"),
+        b'a'..=b'z' | b'A'..=b'Z' | b'_' | b'0'..=b'9' => assert!(rt; is_token, "{b}"),
+        _ if b"(){}[],;=+-*/%&|^~!<>".contains(&b) => assert!(rt; is_token, "{b}"),
+        _ => assert_eq!(rt; answer, (1, 1, 1), "{b}"),
+    }
 }
 
 #[test]
 fn each_byte_alone(rt: HostRuntime) -> Result<(), Fail> {
     for b in 0..=255u8 {
-        let source = [b].to_vec(rt.alloc())?;
-        let answer = refusal(rt.alloc(), source.as_slice());
-        let read = tokens(rt.alloc(), source.as_slice()).is_ok_and(|tokens| tokens.len() == 1);
-        match b {
-            b'\t' | b'\n' | b'\r' | b' ' => assert!(rt; answer == (0, 0, 0) && !read, "{b}"),
-            b'a'..=b'z' | b'A'..=b'Z' | b'_' | b'0'..=b'9' => assert!(rt; read, "{b}"),
-            _ if b"(){}[],;=+-*/%&|^~!<>".contains(&b) => assert!(rt; read, "{b}"),
-            _ => assert_eq!(rt; answer, (1, 1, 1), "{b}"),
-        }
-        let mut comment = b"/*".to_vec(rt.alloc())?;
-        comment.push(b)?;
-        comment.extend_from_slice(b"*/")?;
-        assert_eq!(rt; texts(rt.alloc(), comment.as_slice())?.len(), 0, "{b}");
+        let source = [b];
+        let answer = refusal(rt.alloc(), &source);
+        let is_token = tokens(rt.alloc(), &source).is_ok_and(|tokens| tokens.len() == 1);
+        expect_byte(&rt, b, answer, is_token);
+        expect_texts(&rt, rt.alloc(), &[b'/', b'*', b, b'*', b'/'], b"")?;
     }
     Ok(())
 }
 
 #[test]
 fn the_leftmost_fault(rt: HostRuntime) {
-    assert_eq!(rt; refusal(rt.alloc(), b"int $x;"), (1, 1, 5));
-    assert_eq!(rt; refusal(rt.alloc(), b"08 $ /*"), (2, 1, 1));
-    assert_eq!(rt; refusal(rt.alloc(), b"\n\n  $ 08 /*"), (1, 3, 3));
-    assert_eq!(rt; refusal(rt.alloc(), b"x /* 08 $"), (3, 1, 3));
-    assert_eq!(rt; refusal(rt.alloc(), b"// $\n\t@"), (1, 2, 2));
+    let alloc = rt.alloc();
+    expect_refusal(&rt, alloc, b"int $x;", (1, 1, 5));
+    expect_refusal(&rt, alloc, b"08 $ /*", (2, 1, 1));
+    expect_refusal(&rt, alloc, b"\n\n  $ 08 /*", (1, 3, 3));
+    expect_refusal(&rt, alloc, b"x /* 08 $", (3, 1, 3));
+    expect_refusal(&rt, alloc, b"// $\n\t@", (1, 2, 2));
+}
+
+fn expect_place(rt: &impl Abort, token: &Token<'_>, kind: Kind, span: Span, pos: Pos) {
+    assert_eq!(rt; token.kind, kind);
+    assert_eq!(rt; token.span, span);
+    assert_eq!(rt; token.pos, pos);
 }
 
 #[test]
 fn places(rt: HostRuntime) -> Result<(), Fail> {
     let source = b"int\r\n  x/*\n\n*/= --1;\n".as_slice();
-    let tokens = tokens(rt.alloc(), source)?;
+    expect_texts(&rt, rt.alloc(), source, b"int x = -- 1 ; ")?;
     let wanted = [
         (Kind::Mark(Mark::Int), 0, 3, 1, 1),
         (Kind::Name, 7, 8, 2, 3),
@@ -342,27 +364,36 @@ fn places(rt: HostRuntime) -> Result<(), Fail> {
         (Kind::Number(1), 18, 19, 4, 7),
         (Kind::Mark(Mark::Semicolon), 19, 20, 4, 8),
     ];
-    assert_eq!(rt; tokens.len(), wanted.len());
+    let tokens = tokens(rt.alloc(), source)?;
     for (token, (kind, start, end, line, col)) in tokens.iter().zip(wanted) {
-        assert_eq!(rt; token.kind, kind);
-        assert_eq!(rt; token.span, Span { start, end });
-        assert_eq!(rt; token.pos, Pos { line, col });
+        expect_place(&rt, token, kind, Span { start, end }, Pos { line, col });
     }
-    assert_eq!(rt;
-        texts(rt.alloc(), source)?.as_slice(),
-        b"int x = -- 1 ; ".as_slice()
-    );
     Ok(())
 }
 
 #[test]
 fn the_length_of_a_source(rt: HostRuntime) -> Result<(), Fail> {
     let mut source = vec![in rt.alloc(); b' '; 65536]?;
-    assert_eq!(rt; tokens(rt.alloc(), source.as_slice())?.len(), 0);
+    expect_texts(&rt, rt.alloc(), source.as_slice(), b"")?;
     source.push(b' ')?;
-    assert_eq!(rt; refusal(rt.alloc(), source.as_slice()), (5, 0, 0));
-    let foreign = vec![in rt.alloc(); b'$'; 65537]?;
-    assert_eq!(rt; refusal(rt.alloc(), foreign.as_slice()), (5, 0, 0));
+    expect_refusal(&rt, rt.alloc(), source.as_slice(), (5, 0, 0));
+    source.fill(b'$');
+    expect_refusal(&rt, rt.alloc(), source.as_slice(), (5, 0, 0));
+    Ok(())
+}
+
+fn tells(
+    rt: &impl Abort,
+    alloc: Global,
+    error: LexError,
+    number: u32,
+    place: Option<Pos>,
+    text: &str,
+) -> Result<(), AllocError> {
+    let shown = format!(in alloc; "{error}")?;
+    assert_eq!(rt; shown.as_str(), text);
+    assert_eq!(rt; error.number(), number);
+    assert_eq!(rt; error.pos(), place);
     Ok(())
 }
 
@@ -403,9 +434,7 @@ fn numbers_places_and_texts(rt: HostRuntime) -> Result<(), Fail> {
         (LexError::from(AllocError), 6, None, "out of memory"),
     ];
     for (error, number, place, text) in all {
-        assert_eq!(rt; error.number(), number);
-        assert_eq!(rt; error.pos(), place);
-        assert_eq!(rt; format!(in rt.alloc(); "{error}")?.as_str(), text);
+        tells(&rt, rt.alloc(), error, number, place, text)?;
     }
     Ok(())
 }

@@ -5,6 +5,7 @@ use hx_parse::{ParseError, parse};
 use hx_tree::token::Pos;
 use hx_tree::tree::{Item, Part, Program, Stmt};
 use std::alloc::{AllocError, Global};
+use std::process::Abort;
 use std::test::Fail;
 
 /// The number of a refusal, and the line and column of its place; zeros for what is not there.
@@ -26,125 +27,140 @@ fn answer(alloc: Global, source: &[u8]) -> (u32, u32, u32) {
     }
 }
 
+const TAKEN: (u32, u32, u32) = (0, 0, 0);
+
+const TOO_DEEP: (u32, u32, u32) = (11, 0, 0);
+
+fn expect(
+    rt: &impl Abort,
+    alloc: Global,
+    source: Result<Vec<u8>, AllocError>,
+    wanted: (u32, u32, u32),
+) -> Result<(), AllocError> {
+    let source = source?;
+    assert_eq!(rt; answer(alloc, source.as_slice()), wanted);
+    Ok(())
+}
+
 /// A text, another text so many times, and a third text.
 fn nested(
     alloc: Global,
-    before: &str,
-    inner: &str,
+    before: &[u8],
+    inner: &[u8],
     count: usize,
-    behind: &str,
+    behind: &[u8],
 ) -> Result<Vec<u8>, AllocError> {
     let mut all = Vec::new(alloc);
-    all.extend_from_slice(before.as_bytes())?;
+    all.extend_from_slice(before)?;
     for _ in 0..count {
-        all.extend_from_slice(inner.as_bytes())?;
+        all.extend_from_slice(inner)?;
     }
-    all.extend_from_slice(behind.as_bytes())?;
+    all.extend_from_slice(behind)?;
     Ok(all)
 }
 
 /// `int main(){ print(E); }`, where E is 1 in so many pairs of parentheses.
 fn in_parentheses(alloc: Global, pairs: usize) -> Result<Vec<u8>, AllocError> {
-    let mut all = nested(alloc, "int main(){ print(", "(", pairs, "1")?;
-    let rest = nested(alloc, "", ")", pairs, "); }")?;
+    let mut all = nested(alloc, b"int main(){ print(", b"(", pairs, b"1")?;
+    let rest = nested(alloc, b"", b")", pairs, b"); }")?;
     all.extend_from_slice(rest.as_slice())?;
     Ok(all)
 }
 
 /// A function whose body has so many blocks, each in the one before.
 fn in_blocks(alloc: Global, blocks: usize) -> Result<Vec<u8>, AllocError> {
-    let mut all = nested(alloc, "int main(){ ", "{", blocks, "")?;
-    let rest = nested(alloc, "", "}", blocks, " }")?;
+    let mut all = nested(alloc, b"int main(){ ", b"{", blocks, b"")?;
+    let rest = nested(alloc, b"", b"}", blocks, b" }")?;
     all.extend_from_slice(rest.as_slice())?;
     Ok(all)
 }
 
 #[test]
 fn faults_have_their_places(rt: HostRuntime) {
-    let rows = [
-        ("int main(){ print(1) }", 10, 1, 22),
-        ("int main(){ int x = 1 +; }", 10, 1, 24),
-        ("int main(){ print(--1); }", 10, 1, 19),
-        ("int main(){ print(- -1); }", 0, 0, 0),
-        ("int", 10, 1, 4),
-        ("", 0, 0, 0),
-        ("int x", 10, 1, 6),
-        ("int x\n  y;", 10, 2, 3),
-        ("int do=1, while1, iff; int main(){}", 0, 0, 0),
-        ("int while;", 10, 1, 5),
-        ("int x, f();", 10, 1, 9),
-        ("void x;", 10, 1, 7),
-        ("void x = 1;", 10, 1, 8),
-        ("int x = y;", 10, 1, 9),
-        ("int x = - - 1;", 10, 1, 11),
-        ("int x = 1 + 1;", 10, 1, 11),
-        ("int a[];", 10, 1, 7),
-        ("int a[-1];", 10, 1, 7),
-        ("int a[2] = 1;", 10, 1, 12),
-        ("int a[2] = {};", 10, 1, 13),
-        ("int a[2] = {1,};", 10, 1, 15),
-        ("int a[2] = {1, -2}, b = -3;", 0, 0, 0),
-        ("int a[2][2];", 10, 1, 9),
-        ("f();", 10, 1, 1),
-        ("int f(int){}", 10, 1, 10),
-        ("int f(int a, b){}", 10, 1, 14),
-        ("int f(int a,){}", 10, 1, 13),
-        ("int f(void a){}", 10, 1, 12),
-        ("int f(void, int a){}", 10, 1, 11),
-        ("int f();", 10, 1, 8),
-        ("int f(void){} int g(int a, int b){}", 0, 0, 0),
-        ("int f(){} }", 10, 1, 11),
-        ("int f(){", 10, 1, 9),
-        ("int f(){ int a[1]; }", 10, 1, 15),
-        ("int f(){ x; }", 10, 1, 11),
-        ("int f(){ 1; }", 10, 1, 10),
-        ("int f(){ x = ; }", 10, 1, 14),
-        ("int f(){ x[1]; }", 10, 1, 14),
-        ("int f(){ x[1](); }", 10, 1, 14),
-        ("int f(){ x + 1; }", 10, 1, 12),
-        ("int f(){ ++x; }", 10, 1, 10),
-        ("int f(){ x++ = 1; }", 10, 1, 14),
-        ("int f(){ x = y = 1; }", 10, 1, 16),
-        ("int f(){ f(1,); }", 10, 1, 14),
-        ("int f(){ f(,1); }", 10, 1, 12),
-        ("int f(){ f(1 2); }", 10, 1, 14),
-        ("int f(){ print 1; }", 10, 1, 16),
-        ("int f(){ print(); }", 10, 1, 16),
-        ("int f(){ print(1), }", 10, 1, 18),
-        ("int f(){ else; }", 10, 1, 10),
-        ("int f(){ if (1) ; else else ; }", 10, 1, 24),
-        ("int f(){ if (1) int x; }", 10, 1, 17),
-        ("int f(){ if 1 ; }", 10, 1, 13),
-        ("int f(){ while () ; }", 10, 1, 17),
-        ("int f(){ for (;;) }", 10, 1, 19),
-        ("int f(){ for (;) ; }", 10, 1, 16),
-        ("int f(){ for (f();;) ; }", 10, 1, 16),
-        ("int f(){ for (;;int x) ; }", 10, 1, 17),
-        ("int f(){ for (;;x) ; }", 10, 1, 18),
-        ("int f(){ break 1; }", 10, 1, 16),
-        ("int f(){ continue }", 10, 1, 19),
-        ("int f(){ return ) }", 10, 1, 17),
-        ("int f(){ return 1 }", 10, 1, 19),
-        ("int f(){ return 1 = 2; }", 10, 1, 19),
-        ("int f(){ x = !~-(1); }", 0, 0, 0),
-        ("int f(){ x = 1 ! 2; }", 10, 1, 16),
-        ("int f(){ x = a[1; }", 10, 1, 17),
-        ("int f(){ x = (1; }", 10, 1, 16),
-        ("int f(){ x = a[1][2]; }", 10, 1, 18),
-        ("int f(){ x = f(1)(2); }", 10, 1, 18),
-        ("int f(){ x = 1 && && 2; }", 10, 1, 19),
+    let rows: [(&[u8], u32, u32, u32); 71] = [
+        (b"int main(){ print(1) }", 10, 1, 22),
+        (b"int main(){ int x = 1 +; }", 10, 1, 24),
+        (b"int main(){ print(--1); }", 10, 1, 19),
+        (b"int main(){ print(- -1); }", 0, 0, 0),
+        (b"int", 10, 1, 4),
+        (b"", 0, 0, 0),
+        (b"int x", 10, 1, 6),
+        (b"int x\n  y;", 10, 2, 3),
+        (b"int do=1, while1, iff; int main(){}", 0, 0, 0),
+        (b"int while;", 10, 1, 5),
+        (b"int x, f();", 10, 1, 9),
+        (b"void x;", 10, 1, 7),
+        (b"void x = 1;", 10, 1, 8),
+        (b"int x = y;", 10, 1, 9),
+        (b"int x = - - 1;", 10, 1, 11),
+        (b"int x = 1 + 1;", 10, 1, 11),
+        (b"int a[];", 10, 1, 7),
+        (b"int a[-1];", 10, 1, 7),
+        (b"int a[2] = 1;", 10, 1, 12),
+        (b"int a[2] = {};", 10, 1, 13),
+        (b"int a[2] = {1,};", 10, 1, 15),
+        (b"int a[2] = {1, -2}, b = -3;", 0, 0, 0),
+        (b"int a[2][2];", 10, 1, 9),
+        (b"f();", 10, 1, 1),
+        (b"int f(int){}", 10, 1, 10),
+        (b"int f(int a, b){}", 10, 1, 14),
+        (b"int f(int a,){}", 10, 1, 13),
+        (b"int f(void a){}", 10, 1, 12),
+        (b"int f(void, int a){}", 10, 1, 11),
+        (b"int f();", 10, 1, 8),
+        (b"int f(void){} int g(int a, int b){}", 0, 0, 0),
+        (b"int f(){} }", 10, 1, 11),
+        (b"int f(){", 10, 1, 9),
+        (b"int f(){ int a[1]; }", 10, 1, 15),
+        (b"int f(){ x; }", 10, 1, 11),
+        (b"int f(){ 1; }", 10, 1, 10),
+        (b"int f(){ x = ; }", 10, 1, 14),
+        (b"int f(){ x[1]; }", 10, 1, 14),
+        (b"int f(){ x[1](); }", 10, 1, 14),
+        (b"int f(){ x + 1; }", 10, 1, 12),
+        (b"int f(){ ++x; }", 10, 1, 10),
+        (b"int f(){ x++ = 1; }", 10, 1, 14),
+        (b"int f(){ x = y = 1; }", 10, 1, 16),
+        (b"int f(){ f(1,); }", 10, 1, 14),
+        (b"int f(){ f(,1); }", 10, 1, 12),
+        (b"int f(){ f(1 2); }", 10, 1, 14),
+        (b"int f(){ print 1; }", 10, 1, 16),
+        (b"int f(){ print(); }", 10, 1, 16),
+        (b"int f(){ print(1), }", 10, 1, 18),
+        (b"int f(){ else; }", 10, 1, 10),
+        (b"int f(){ if (1) ; else else ; }", 10, 1, 24),
+        (b"int f(){ if (1) int x; }", 10, 1, 17),
+        (b"int f(){ if 1 ; }", 10, 1, 13),
+        (b"int f(){ while () ; }", 10, 1, 17),
+        (b"int f(){ for (;;) }", 10, 1, 19),
+        (b"int f(){ for (;) ; }", 10, 1, 16),
+        (b"int f(){ for (f();;) ; }", 10, 1, 16),
+        (b"int f(){ for (;;int x) ; }", 10, 1, 17),
+        (b"int f(){ for (;;x) ; }", 10, 1, 18),
+        (b"int f(){ break 1; }", 10, 1, 16),
+        (b"int f(){ continue }", 10, 1, 19),
+        (b"int f(){ return ) }", 10, 1, 17),
+        (b"int f(){ return 1 }", 10, 1, 19),
+        (b"int f(){ return 1 = 2; }", 10, 1, 19),
+        (b"int f(){ x = !~-(1); }", 0, 0, 0),
+        (b"int f(){ x = 1 ! 2; }", 10, 1, 16),
+        (b"int f(){ x = a[1; }", 10, 1, 17),
+        (b"int f(){ x = (1; }", 10, 1, 16),
+        (b"int f(){ x = a[1][2]; }", 10, 1, 18),
+        (b"int f(){ x = f(1)(2); }", 10, 1, 18),
+        (b"int f(){ x = 1 && && 2; }", 10, 1, 19),
     ];
     for (source, number, line, col) in rows {
         assert_eq!(rt;
-            answer(rt.alloc(), source.as_bytes()),
+            answer(rt.alloc(), source),
             (number, line, col),
-            "{source}"
+            "{source:?}"
         );
     }
 }
 
 /// A program with each construct of the language.
-const EACH: &str = "int g = -1, a[3] = {1, -2}, b;
+const EACH: &[u8] = b"int g = -1, a[3] = {1, -2}, b;
 void p(void) {}
 int f(int x, int y) {
     int z, w = x * (y - 2) / 3 % 4;
@@ -159,7 +175,7 @@ int f(int x, int y) {
 
 #[test]
 fn fronts_end_too_soon(rt: HostRuntime) -> Result<(), Fail> {
-    let all = tokens(rt.alloc(), EACH.as_bytes())?;
+    let all = tokens(rt.alloc(), EACH)?;
     assert_eq!(rt; told(parse(rt.alloc(), all.as_slice())), (0, 0, 0));
     let mut whole = 0u32;
     let mut front = Vec::new(rt.alloc());
@@ -208,8 +224,8 @@ fn has_else_within(item: &Item) -> bool {
 
 #[test]
 fn an_else_goes_to_the_nearest_if(rt: HostRuntime) -> Result<(), Fail> {
-    let source = "int main(){ if (1) while (2) if (3) ; else ; }";
-    let all = tokens(rt.alloc(), source.as_bytes())?;
+    let source = b"int main(){ if (1) while (2) if (3) ; else ; }";
+    let all = tokens(rt.alloc(), source)?;
     let program = parse(rt.alloc(), all.as_slice())?;
     assert!(rt; program.items.iter().all(|item| has_else_within(item)));
     assert_eq!(rt; program.items.len(), 1);
@@ -218,57 +234,62 @@ fn an_else_goes_to_the_nearest_if(rt: HostRuntime) -> Result<(), Fail> {
 
 #[test]
 fn the_height_has_a_limit(rt: HostRuntime) -> Result<(), Fail> {
+    let alloc = rt.alloc();
     // The program, the function, its body and the statement stand above the expression, which has a node for each pair and one.
-    assert_eq!(rt;
-        answer(rt.alloc(), in_parentheses(rt.alloc(), 195)?.as_slice()),
-        (0, 0, 0)
-    );
-    assert_eq!(rt;
-        answer(rt.alloc(), in_parentheses(rt.alloc(), 196)?.as_slice()),
-        (11, 0, 0)
-    );
+    expect(&rt, alloc, in_parentheses(alloc, 195), TAKEN)?;
+    expect(&rt, alloc, in_parentheses(alloc, 196), TOO_DEEP)?;
     // A sum of so many numbers has a node for each.
-    let sum = nested(rt.alloc(), "int main(){ print(1", "+1", 195, "); }")?;
-    assert_eq!(rt; answer(rt.alloc(), sum.as_slice()), (0, 0, 0));
-    let sum = nested(rt.alloc(), "int main(){ print(1", "+1", 196, "); }")?;
-    assert_eq!(rt; answer(rt.alloc(), sum.as_slice()), (11, 0, 0));
+    let sum = |count| nested(alloc, b"int main(){ print(1", b"+1", count, b"); }");
+    expect(&rt, alloc, sum(195), TAKEN)?;
+    expect(&rt, alloc, sum(196), TOO_DEEP)?;
     // Blocks in the body of a function, which has height 3 with the function and the program.
-    assert_eq!(rt;
-        answer(rt.alloc(), in_blocks(rt.alloc(), 197)?.as_slice()),
-        (0, 0, 0)
-    );
-    assert_eq!(rt;
-        answer(rt.alloc(), in_blocks(rt.alloc(), 198)?.as_slice()),
-        (11, 0, 0)
-    );
+    expect(&rt, alloc, in_blocks(alloc, 197), TAKEN)?;
+    expect(&rt, alloc, in_blocks(alloc, 198), TOO_DEEP)?;
     // A list is no higher than its highest member.
-    let list = nested(rt.alloc(), "int main(){ f(1", ", 1", 1000, "); }")?;
-    assert_eq!(rt; answer(rt.alloc(), list.as_slice()), (0, 0, 0));
+    let list = nested(alloc, b"int main(){ f(1", b", 1", 1000, b"); }");
+    expect(&rt, alloc, list, TAKEN)?;
     Ok(())
 }
 
 #[test]
 fn a_fault_behind_the_highest_tree_is_one_of_syntax(rt: HostRuntime) -> Result<(), Fail> {
+    let alloc = rt.alloc();
     // 197 blocks could still end here; with one more they could not, and a fault behind them may be told or not.
-    let blocks = nested(rt.alloc(), "int main(){ ", "{", 197, ")")?;
-    assert_eq!(rt; answer(rt.alloc(), blocks.as_slice()), (10, 1, 210));
-    let calls = nested(rt.alloc(), "int main(){ ", "{", 196, "f;")?;
-    assert_eq!(rt; answer(rt.alloc(), calls.as_slice()), (10, 1, 210));
-    let pairs = nested(rt.alloc(), "int main(){ print(", "(", 195, ";")?;
-    assert_eq!(rt; answer(rt.alloc(), pairs.as_slice()), (10, 1, 214));
+    let blocks = nested(alloc, b"int main(){ ", b"{", 197, b")");
+    expect(&rt, alloc, blocks, (10, 1, 210))?;
+    let calls = nested(alloc, b"int main(){ ", b"{", 196, b"f;");
+    expect(&rt, alloc, calls, (10, 1, 210))?;
+    let pairs = nested(alloc, b"int main(){ print(", b"(", 195, b";");
+    expect(&rt, alloc, pairs, (10, 1, 214))?;
     Ok(())
 }
 
 #[test]
 fn deep_sources_end_in_a_refusal(rt: HostRuntime) -> Result<(), Fail> {
-    let pairs = nested(rt.alloc(), "int main(){ print(", "(", 30000, "")?;
-    assert_eq!(rt; answer(rt.alloc(), pairs.as_slice()), (11, 0, 0));
-    let blocks = nested(rt.alloc(), "int main()", "{", 65000, "")?;
-    assert_eq!(rt; answer(rt.alloc(), blocks.as_slice()), (11, 0, 0));
-    let signs = nested(rt.alloc(), "int main(){ print(", "- ", 30000, "")?;
-    assert_eq!(rt; answer(rt.alloc(), signs.as_slice()), (11, 0, 0));
-    let ifs = nested(rt.alloc(), "int main(){ ", "if (1) ", 9000, "")?;
-    assert_eq!(rt; answer(rt.alloc(), ifs.as_slice()), (11, 0, 0));
+    let alloc = rt.alloc();
+    let pairs = nested(alloc, b"int main(){ print(", b"(", 30000, b"");
+    expect(&rt, alloc, pairs, TOO_DEEP)?;
+    let blocks = nested(alloc, b"int main()", b"{", 65000, b"");
+    expect(&rt, alloc, blocks, TOO_DEEP)?;
+    let signs = nested(alloc, b"int main(){ print(", b"- ", 30000, b"");
+    expect(&rt, alloc, signs, TOO_DEEP)?;
+    let ifs = nested(alloc, b"int main(){ ", b"if (1) ", 9000, b"");
+    expect(&rt, alloc, ifs, TOO_DEEP)?;
+    Ok(())
+}
+
+fn tells(
+    rt: &impl Abort,
+    alloc: Global,
+    refusal: ParseError,
+    number: u32,
+    place: Option<Pos>,
+    text: &str,
+) -> Result<(), AllocError> {
+    let shown = format!(in alloc; "{refusal}")?;
+    assert_eq!(rt; shown.as_str(), text);
+    assert_eq!(rt; refusal.number(), number);
+    assert_eq!(rt; refusal.pos(), place);
     Ok(())
 }
 
@@ -291,9 +312,7 @@ fn refusals_have_numbers_and_texts(rt: HostRuntime) -> Result<(), Fail> {
         (ParseError::from(AllocError), 12, None, "out of memory"),
     ];
     for (refusal, number, place, text) in rows {
-        assert_eq!(rt; refusal.number(), number);
-        assert_eq!(rt; refusal.pos(), place);
-        assert_eq!(rt; format!(in rt.alloc(); "{refusal}")?.as_str(), text);
+        tells(&rt, rt.alloc(), refusal, number, place, text)?;
     }
     Ok(())
 }

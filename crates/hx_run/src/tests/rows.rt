@@ -1,7 +1,7 @@
 // Worked programs with their answers, by the plain machine.
 
 use crate::{PlainRan, run_plain};
-use hx_tree::outcome::{End, Fault, FaultKind};
+use hx_tree::outcome::{End, Fault, FaultKind, Finish};
 use hx_tree::token::Pos;
 use std::alloc::Global;
 use std::process::Abort;
@@ -46,15 +46,17 @@ fn fault(kind: FaultKind, line: u32, col: u32) -> End {
     })
 }
 
+fn is_of(rt: &impl Abort, row: Row<'_>, finish: &Finish) {
+    assert_eq!(rt; finish.outcome.text.as_slice(), row.text);
+    assert_eq!(rt; finish.outcome.globals.as_slice(), row.globals);
+    assert!(rt; finish.outcome.end == row.end);
+    assert_eq!(rt; finish.counts.regions, row.regions);
+    assert_eq!(rt; finish.counts.turns, row.turns);
+}
+
 fn holds(rt: &impl Abort, alloc: Global, row: Row<'_>) {
     match run_plain(alloc, row.source, row.input, STEPS) {
-        Ok(PlainRan::Ended(finish)) => {
-            assert_eq!(rt; finish.outcome.text.as_slice(), row.text);
-            assert_eq!(rt; finish.outcome.globals.as_slice(), row.globals);
-            assert!(rt; finish.outcome.end == row.end);
-            assert_eq!(rt; finish.counts.regions, row.regions);
-            assert_eq!(rt; finish.counts.turns, row.turns);
-        }
+        Ok(PlainRan::Ended(finish)) => is_of(rt, row, &finish),
         _ => assert!(rt; false),
     }
 }

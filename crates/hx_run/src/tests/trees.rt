@@ -5,6 +5,7 @@ use hx_check::error::CheckError;
 use hx_tree::token::Pos;
 use hx_tree::tree::{Expr, Func, Item, Name, Params, Part, Program, Returns, Stmt};
 use std::alloc::{AllocError, Global};
+use std::process::Abort;
 use std::test::Fail;
 
 const POS: Pos = Pos { line: 1, col: 1 };
@@ -44,6 +45,21 @@ fn height(rt: HostRuntime) -> Result<(), Fail> {
         Ok(_) => assert!(rt; false),
         Err(e) => assert!(rt; e == CheckError::TooLarge),
     }
+    Ok(())
+}
+
+fn tells(
+    rt: &impl Abort,
+    alloc: Global,
+    e: CheckError,
+    text: &str,
+    number: u32,
+    place: Option<Pos>,
+) -> Result<(), AllocError> {
+    let shown = e.to_string(alloc)?;
+    assert_eq!(rt; shown.as_str(), text);
+    assert_eq!(rt; e.number(), number);
+    assert_eq!(rt; e.pos(), place);
     Ok(())
 }
 
@@ -92,9 +108,7 @@ fn tells_refusals(rt: HostRuntime) -> Result<(), Fail> {
         (CheckError::Memory, "refused 27", 27, None),
     ];
     for (e, text, number, place) in rows {
-        assert_eq!(rt; e.to_string(rt.alloc())?.as_str(), text);
-        assert_eq!(rt; e.number(), number);
-        assert_eq!(rt; e.pos(), place);
+        tells(&rt, rt.alloc(), e, text, number, place)?;
     }
     Ok(())
 }

@@ -1,16 +1,31 @@
 // Tables of a few words: filled, refused another, emptied, and laid over a store.
 
-use crate::buffer::WriteBuffer;
+use hx_buffer::buffer::WriteBuffer;
 use hx_marks::marks::{Entry, Full, Marks};
+use std::process::Abort;
 use std::test::Fail;
+
+fn puts(
+    rt: &impl Abort,
+    buffer: &mut WriteBuffer,
+    word: u32,
+    value: i32,
+    wanted: Result<(), Full>,
+) {
+    assert_eq!(rt; buffer.put(word, value), wanted);
+}
+
+fn marks_so(rt: &impl Abort, marks: &mut Marks, word: u32, value: i32, wanted: Result<(), Full>) {
+    assert_eq!(rt; marks.mark(word, value), wanted);
+}
 
 #[test]
 fn two_words_are_laid_over_a_store(rt: HostRuntime) -> Result<(), Fail> {
     let mut buffer = WriteBuffer::with_capacity(rt.alloc(), 2)?;
-    assert_eq!(rt; buffer.put(3, 6), Ok(()));
-    assert_eq!(rt; buffer.put(0, -1), Ok(()));
-    assert_eq!(rt; buffer.put(2, 8), Err(Full));
-    assert_eq!(rt; buffer.put(3, 5), Ok(()));
+    puts(&rt, &mut buffer, 3, 6, Ok(()));
+    puts(&rt, &mut buffer, 0, -1, Ok(()));
+    puts(&rt, &mut buffer, 2, 8, Err(Full));
+    puts(&rt, &mut buffer, 3, 5, Ok(()));
     assert_eq!(rt;
         [buffer.get(0), buffer.get(2), buffer.get(3)],
         [Some(-1), None, Some(5)]
@@ -19,14 +34,14 @@ fn two_words_are_laid_over_a_store(rt: HostRuntime) -> Result<(), Fail> {
     buffer.drain_into(&mut store);
     assert_eq!(rt; store, [-1, 11, 12, 5]);
     assert_eq!(rt; buffer.entries().len(), 0);
-    assert_eq!(rt; buffer.put(2, 8), Ok(()));
+    puts(&rt, &mut buffer, 2, 8, Ok(()));
     Ok(())
 }
 
 #[test]
 fn what_is_cleared_is_not_written(rt: HostRuntime) -> Result<(), Fail> {
     let mut buffer = WriteBuffer::with_capacity(rt.alloc(), 1)?;
-    assert_eq!(rt; buffer.put(1, 7), Ok(()));
+    puts(&rt, &mut buffer, 1, 7, Ok(()));
     assert_eq!(rt; buffer.entries(), [Entry { word: 1, value: 7 }].as_slice());
     buffer.clear();
     let mut store = [10, 11];
@@ -38,8 +53,8 @@ fn what_is_cleared_is_not_written(rt: HostRuntime) -> Result<(), Fail> {
 #[test]
 fn words_beyond_the_store_are_dropped(rt: HostRuntime) -> Result<(), Fail> {
     let mut buffer = WriteBuffer::with_capacity(rt.alloc(), 2)?;
-    assert_eq!(rt; buffer.put(2, 7), Ok(()));
-    assert_eq!(rt; buffer.put(1, 8), Ok(()));
+    puts(&rt, &mut buffer, 2, 7, Ok(()));
+    puts(&rt, &mut buffer, 1, 8, Ok(()));
     let mut store = [10, 11];
     buffer.drain_into(&mut store);
     assert_eq!(rt; store, [10, 8]);
@@ -55,10 +70,10 @@ const SEVEN: Entry = Entry { word: 7, value: 3 };
 fn two_words_fill_marks_of_two(rt: HostRuntime) -> Result<(), Fail> {
     let mut marks = Marks::with_capacity(rt.alloc(), 2)?;
     assert_eq!(rt; marks.get(7), None);
-    assert_eq!(rt; marks.mark(7, 1), Ok(()));
-    assert_eq!(rt; marks.mark(4, -2), Ok(()));
-    assert_eq!(rt; marks.mark(5, 0), Err(Full));
-    assert_eq!(rt; marks.mark(7, 3), Ok(()));
+    marks_so(&rt, &mut marks, 7, 1, Ok(()));
+    marks_so(&rt, &mut marks, 4, -2, Ok(()));
+    marks_so(&rt, &mut marks, 5, 0, Err(Full));
+    marks_so(&rt, &mut marks, 7, 3, Ok(()));
     assert_eq!(rt;
         [marks.get(4), marks.get(5), marks.get(7)],
         [Some(-2), None, Some(3)]
@@ -70,10 +85,10 @@ fn two_words_fill_marks_of_two(rt: HostRuntime) -> Result<(), Fail> {
 #[test]
 fn emptied_marks_have_their_room_again(rt: HostRuntime) -> Result<(), Fail> {
     let mut marks = Marks::with_capacity(rt.alloc(), 1)?;
-    assert_eq!(rt; marks.mark(7, 3), Ok(()));
+    marks_so(&rt, &mut marks, 7, 3, Ok(()));
     marks.clear();
     assert_eq!(rt; marks.get(7), None);
-    assert_eq!(rt; marks.mark(4, -2), Ok(()));
+    marks_so(&rt, &mut marks, 4, -2, Ok(()));
     assert_eq!(rt; marks.entries(), [FOUR].as_slice());
     Ok(())
 }
@@ -81,6 +96,6 @@ fn emptied_marks_have_their_room_again(rt: HostRuntime) -> Result<(), Fail> {
 #[test]
 fn marks_without_room_are_full(rt: HostRuntime) -> Result<(), Fail> {
     let mut marks = Marks::with_capacity(rt.alloc(), 0)?;
-    assert_eq!(rt; marks.mark(0, 0), Err(Full));
+    marks_so(&rt, &mut marks, 0, 0, Err(Full));
     Ok(())
 }
