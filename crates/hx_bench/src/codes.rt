@@ -158,12 +158,21 @@ fn put(
     Ok(())
 }
 
+fn function(name: Vec<u8>, entry: u32, parameters: u32, privates: u32) -> Func {
+    Func {
+        name,
+        entry,
+        parameters,
+        privates,
+    }
+}
+
 /// The code, or none where the validator refuses it, which it doesn't.
 pub(crate) fn code_of(alloc: Global, sketch: Sketch) -> Result<Option<Code>, AllocError> {
     let mut words = Vec::new(alloc);
     let mut spots = Vec::new(alloc);
     let mut functions = Vec::new(alloc);
-    functions.push(Func::new(Vec::from_slice(alloc, b"main")?, 0, 0, 2))?;
+    functions.push(function(Vec::from_slice(alloc, b"main")?, 0, 0, 2))?;
     match sketch {
         Sketch::Locals => put(&mut words, &mut spots, &LOCALS, 0)?,
         Sketch::Arrays => put(&mut words, &mut spots, &ARRAYS, 0)?,
@@ -171,7 +180,7 @@ pub(crate) fn code_of(alloc: Global, sketch: Sketch) -> Result<Option<Code>, All
         Sketch::Calls => {
             put(&mut words, &mut spots, &MAIN_OF_CALLS, 0)?;
             put(&mut words, &mut spots, &FIBONACCI, 1)?;
-            functions.push(Func::new(Vec::from_slice(alloc, b"fib")?, 4, 1, 1))?;
+            functions.push(function(Vec::from_slice(alloc, b"fib")?, 4, 1, 1))?;
         }
     }
     let tables = Tables {

@@ -55,8 +55,8 @@ fn are_small(functions: &[Func]) -> bool
     ensures { IsTrue result ↔ All IsSmallFunction functions.now }
 {
     for function in functions {
-        let parameters = function.parameters();
-        let privates = function.privates();
+        let parameters = function.parameters;
+        let privates = function.privates;
         if parameters as usize > PARAMETER_LIMIT
             || parameters > privates
             || privates as usize > PRIVATE_LIMIT
@@ -83,7 +83,7 @@ fn is_main(tables: &Tables) -> bool
 {
     match tables.functions.get(tables.main as usize) {
         None => false,
-        Some(function) => function.parameters() == 0,
+        Some(function) => function.parameters == 0,
     }
 }
 
@@ -126,7 +126,7 @@ fn privates(tables: &Tables, function: u32) -> u32
 {
     match tables.functions.get(function as usize) {
         None => 0,
-        Some(function) => function.privates(),
+        Some(function) => function.privates,
     }
 }
 
@@ -171,7 +171,7 @@ fn parameters(tables: &Tables, function: u32) -> u32
 {
     match tables.functions.get(function as usize) {
         None => 0,
-        Some(function) => function.parameters(),
+        Some(function) => function.parameters,
     }
 }
 
@@ -388,7 +388,7 @@ fn functions_begin(tables: &Tables) -> bool
             region: None,
             height: 0,
         };
-        if !is_spot_at(&tables.spots, function.entry(), own) {
+        if !is_spot_at(&tables.spots, function.entry, own) {
             return false;
         }
     }
@@ -462,8 +462,8 @@ fn begins_at(tables: &Tables, index: u32, region: &Region, enter: Spot) -> bool
         region: None,
         height: 0,
     };
-    is_spot_at(&tables.spots, region.start(), inside)
-        && is_spot_at(&tables.spots, region.exit(), behind)
+    is_spot_at(&tables.spots, region.start, inside)
+        && is_spot_at(&tables.spots, region.exit, behind)
 }
 
 // The same for regions from `index` on where the table doesn't reach that far; false where one has two.
@@ -599,13 +599,13 @@ fn is_within(tables: &Tables, region: &Region, function: u32) -> bool
     ensures { IsTrue result ↔ InFunction (tables_of tables.now) region.now function }
 {
     let privates = privates(tables, function);
-    carried_are_below(region.carried(), privates) && copied_are_below(region.copied(), privates)
+    carried_are_below(&region.carried, privates) && copied_are_below(&region.copied, privates)
 }
 
 fn is_in_function(tables: &Tables, region: &Region) -> bool
     ensures { IsTrue result ↔ ((s : Spot) → slice_get tables.now.spots.items region.now.start ≡ Some s → InFunction (tables_of tables.now) region.now s.function) }
 {
-    match tables.spots.get(region.start() as usize) {
+    match tables.spots.get(region.start as usize) {
         None => true,
         Some(start) => is_within(tables, region, start.function),
     }
@@ -614,8 +614,8 @@ fn is_in_function(tables: &Tables, region: &Region) -> bool
 fn carries_well(tables: &Tables, region: &Region) -> bool
     ensures { IsTrue result ↔ CarriesWell (tables_of tables.now) region.now }
 {
-    let carried = region.carried();
-    let copied = region.copied();
+    let carried = region.carried.as_slice();
+    let copied = region.copied.as_slice();
     are_in_cells(carried)
         && is_in_function(tables, region)
         && cells_are_distinct(carried)

@@ -28,8 +28,12 @@ pub(crate) fn put_function(
     put_stmts(alloc, draft, &f.body, &version, &Targets::none())?;
     draft.put(&version, 0, Word::Const(0))?;
     draft.put(&version, 1, Word::Ret)?;
-    let name = f.name.clone()?;
-    draft.put_function(Func::new(name, entry, f.parameters, f.privates))
+    draft.put_function(Func {
+        name: f.name.clone()?,
+        entry,
+        parameters: f.parameters,
+        privates: f.privates,
+    })
 }
 
 /// Puts the words of functions, one behind another.

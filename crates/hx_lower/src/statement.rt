@@ -130,7 +130,12 @@ fn put_region(
     put_turns(alloc, draft, body, clauses, &inside)?;
     put_plain(alloc, draft, body, clauses, version)?;
     let copied = region.copied.clone()?;
-    draft.put_region(table::Region::new(start, exit, cells, copied))
+    draft.put_region(table::Region {
+        start,
+        exit,
+        carried: cells,
+        copied,
+    })
 }
 
 // The version of a loop that its iterations run.

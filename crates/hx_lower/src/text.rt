@@ -71,10 +71,10 @@ fn put_function(text: &mut Vec<u8>, function: &Func) -> Result<(), AllocError>
     ensures { OnOk result (text.new.items ≡ function_behind function.now text.old.items) }
 {
     text.extend_from_slice(b"func ")?;
-    text.extend_from_slice(function.name())?;
-    put_number(text, function.entry())?;
-    put_number(text, function.parameters())?;
-    put_number(text, function.privates())?;
+    text.extend_from_slice(&function.name)?;
+    put_number(text, function.entry)?;
+    put_number(text, function.parameters)?;
+    put_number(text, function.privates)?;
     end_line(text)
 }
 
@@ -91,12 +91,12 @@ fn put_region(text: &mut Vec<u8>, region: &Region) -> Result<(), AllocError>
     ensures { OnOk result (text.new.items ≡ region_behind region.now text.old.items) }
 {
     text.extend_from_slice(b"region")?;
-    put_number(text, region.start())?;
-    put_number(text, region.exit())?;
+    put_number(text, region.start)?;
+    put_number(text, region.exit)?;
     text.extend_from_slice(b" carried")?;
-    put_carried(text, region.carried())?;
+    put_carried(text, &region.carried)?;
     text.extend_from_slice(b" copied")?;
-    put_copied(text, region.copied())?;
+    put_copied(text, &region.copied)?;
     end_line(text)
 }
 

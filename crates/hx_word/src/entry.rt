@@ -40,8 +40,8 @@ pub fn privates_of(code: &Code, region: u32) -> usize
     ensures few { result ≤ 64 }
 {
     code.known();
-    let spot = spot_at(code, code.region_at(region).start());
-    code.function_at(spot.function).privates() as usize
+    let spot = spot_at(code, code.region_at(region).start);
+    code.function_at(spot.function).privates as usize
 }
 
 // What is told of a place.

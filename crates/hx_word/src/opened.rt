@@ -31,7 +31,7 @@ pub(crate) fn words_behind(code: &Code, opened: &Opened, exit: Exit, store: &[i3
         Exit::Left => {
             let region = code.region_at(opened.region);
             let globals = code.globals() as usize;
-            load_cells(region.carried(), globals, store, &mut words);
+            load_cells(&region.carried, globals, store, &mut words);
             words
         }
         Exit::Returned(_) => words,

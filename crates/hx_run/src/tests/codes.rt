@@ -203,12 +203,21 @@ fn region_of(alloc: Global, flaw: Flaw) -> Result<Region, AllocError> {
         Flaw::CarriedAndCopied => [2, 1],
         _ => [2, 3],
     };
-    Ok(Region::new(
+    Ok(Region {
         start,
         exit,
-        Vec::from_slice(alloc, &carried)?,
-        Vec::from_slice(alloc, &copied)?,
-    ))
+        carried: Vec::from_slice(alloc, &carried)?,
+        copied: Vec::from_slice(alloc, &copied)?,
+    })
+}
+
+fn main_with(alloc: Global, parameters: u32, privates: u32) -> Result<Func, AllocError> {
+    Ok(Func {
+        name: b"main".to_vec(alloc)?,
+        entry: 0,
+        parameters,
+        privates,
+    })
 }
 
 fn code_of(alloc: Global, flaw: Flaw) -> Result<Option<Code>, AllocError> {
@@ -221,7 +230,7 @@ fn code_of(alloc: Global, flaw: Flaw) -> Result<Option<Code>, AllocError> {
         _ => (0, 4),
     };
     let mut functions = Vec::new(alloc);
-    functions.push(Func::new(b"main".to_vec(alloc)?, 0, parameters, privates))?;
+    functions.push(main_with(alloc, parameters, privates)?)?;
     let mut regions = Vec::new(alloc);
     regions.push(region_of(alloc, flaw)?)?;
     let shown = match flaw {
@@ -280,7 +289,7 @@ fn first_function(code: &Code) -> Option<[u32; 3]> {
         return None;
     }
     let function = code.function_at(0);
-    Some([function.entry(), function.parameters(), function.privates()])
+    Some([function.entry, function.parameters, function.privates])
 }
 
 // Where the first region begins and ends, how many words it carries, and the first that it copies.
@@ -290,10 +299,10 @@ fn first_region(code: &Code) -> Option<(u32, u32, usize, Option<u32>)> {
     }
     let region = code.region_at(0);
     Some((
-        region.start(),
-        region.exit(),
-        region.carried().len(),
-        region.copied().first().copied(),
+        region.start,
+        region.exit,
+        region.carried.len(),
+        region.copied.first().copied(),
     ))
 }
 
@@ -309,7 +318,7 @@ fn code_shows_its_parts(rt: HostRuntime) -> Result<(), Fail> {
 // Whether its first function is called main, and the globals begin as one 7.
 fn begins_as_main_with_7(code: &Code) -> bool {
     code.functions().len() > 0
-        && code.function_at(0).name() == b"main".as_slice()
+        && code.function_at(0).name.as_slice() == b"main".as_slice()
         && code.opening() == [7].as_slice()
 }
 
@@ -325,7 +334,7 @@ fn code_shows_main_and_the_globals(rt: HostRuntime) -> Result<(), Fail> {
 // A program of main alone that returns the value of these words.
 fn main_of(alloc: Global, words: &[Word], heights: &[u32]) -> Result<Option<Code>, AllocError> {
     let mut functions = Vec::new(alloc);
-    functions.push(Func::new(b"main".to_vec(alloc)?, 0, 0, 2))?;
+    functions.push(main_with(alloc, 0, 2)?)?;
     let tables = Tables {
         spots: spots(alloc, heights, 0, 0)?,
         functions,

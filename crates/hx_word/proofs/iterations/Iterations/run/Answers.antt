@@ -1,12 +1,12 @@
-use Rattle.std.proofs.Common.{arith, rules, ◌≡◌, ◌≤◌, ◌+◌, length, ap, sym, subst, ◌∙◌, to_z, of_z, w32, refl, true, false, ◌++◌, Some, None, length-set, length-append, vec_capacity}
-use Rattle.std.specs.Prelude.{nat_le, slice_set, slice_index_or, pos}
+use Rattle.std.proofs.Common.{arith, rules, ◌≡◌, ◌≤◌, ◌+◌, length, ap, sym, subst, ◌∙◌, to_z, of_z, w32, refl, true, false, ◌++◌, Some, None, length-append, vec_capacity}
+use Rattle.std.specs.Prelude.{nat_le}
 use Rattle.hx_tree.specs.declared.limits.TheConstants.{TEXT_LIMIT}
-use Rattle.hx_code.specs.declared.word.Ask.TheVariants.{Loads, Stores, Prints, Faults, Turns, Leaves, Returns}
+use Rattle.hx_code.specs.declared.word.Ask.TheVariants.{Prints, Faults, Turns, Leaves, Returns}
 use Rattle.std.proofs.lemmas.Bool.Decides.{nat_tests}
 use Rattle.hx_tree.specs.declared.outcome.FaultKind.TheVariants.{TextFull}
 use Rattle.hx_code.specs.declared.word.Exit.TheVariants.{Left, Faulted, Returned}
 use Rattle.hx_code.specs.Region.{region_after, region_turns, held}
-use Rattle.hx_code.specs.Local.{LocalView, loaded}
+use Rattle.hx_code.specs.Local.{LocalView}
 use Rattle.hx_code.specs.Fits.{FitsLocal, goes_on}
 use Rattle.hx_word.specs.Running.{running, RunsWell, BeforeLast}
 use Rattle.hx_word.specs.declared.iterations.Iterated.{Iterated}

@@ -28,7 +28,7 @@ privates-requires c = (some_calls _ _ _ c.requires.waits.calls).0
 
 pub store_cells-requires-clause-words : goal.store_cells-requires-clause-words
 store_cells-requires-clause-words c =
-    subst AreCarried (sym c.carried.ensures) (are_carried c.args.code.now c.known.ensures c.args.region c.region_at.result.now c.region_at.ensures)
+    subst AreCarried (sym (c.deref.ensures.value ∙ ap (λ (g : RegionView). g.carried) c.behind-code.view_is)) (are_carried c.args.code.now c.known.ensures c.args.region c.region_at.result.now c.region_at.ensures)
 
 same_opened : (r b n p : ℕ) (w : List ℤ) (l : LocalView) (text : List ℕ) → b ≡ l.below → n ≡ length l.calls → w ≡ innermost_words l.calls → p ≡ length text → ◌≡◌ {A = Opened} (record { region = r; below = b + n - 1; words = w; printed = p }) (opened_by r l text)
 same_opened r b n p w l text eb en ew ep = cc
@@ -57,7 +57,7 @@ opened_as c =
     let o = opened_by c.args.region c.args.self.now.calls c.args.self.now.text.items in
     let new = c.store_cells.new.store in
     let made : List ℤ → RegionState → Machine = λ st z. record m { store = st; within = Some z } in
-    let carried = c.carried.ensures ∙ ap (λ (g : RegionView). g.carried) (sym (the_region code c.args.region c.region_at.result.now c.region_at.ensures)) in
+    let carried = c.deref.ensures.value ∙ ap (λ (g : RegionView). g.carried) (c.behind-code.view_is ∙ sym (the_region code c.args.region c.region_at.result.now c.region_at.ensures)) in
     let store : new ≡ into_cells code.globals (region_of code c.args.region).carried o.words m.store =
     c.store_cells.ensures ∙ same_cells _ _ _ _ _ _ _ _ c.globals-globals.ensures carried c.privates.ensures c.deref_mut.ensures.value in
     let same = same_opened c.args.region c.below.result c.calls.result c.len.result c.privates.result.now c.args.self.now.calls c.args.self.now.text.items c.below.ensures c.calls.ensures.calls c.privates.ensures (omega (arith, c.len.ensures)) in

@@ -1,15 +1,15 @@
-use Rattle.std.proofs.Common.{arith, rules, ◌≡◌, ◌≤◌, ◌<◌, ◌+◌, length, ap, sym, subst, ◌∙◌, to_z, of_z, w32, refl, true, false, ◌++◌, Some, None, length-set, length-append, zero-add}
-use Rattle.std.specs.Prelude.{nat_le, slice_set, slice_index_or, pos}
+use Rattle.std.proofs.Common.{arith, rules, ◌≡◌, ◌≤◌, ◌+◌, length, ap, sym, subst, ◌∙◌, to_z, of_z, w32, refl, true, false, ◌++◌, Some, None, length-append, zero-add}
+use Rattle.std.specs.Prelude.{nat_le}
 use Rattle.std.specs.Vec.{with_items}
 use Rattle.std.proofs.lemmas.List.{with_items_is}
 use Rattle.std.proofs.lemmas.Bool.Decides.{nat_tests}
 use Rattle.hx_tree.specs.declared.limits.TheConstants.{TEXT_LIMIT}
 use Rattle.hx_tree.specs.declared.outcome.End.TheVariants.{Normal, Fault}
 use Rattle.hx_tree.specs.declared.outcome.FaultKind.TheVariants.{TextFull}
-use Rattle.hx_code.specs.declared.word.Ask.TheVariants.{Loads, Stores, Prints, Faults, Enters, Returns}
+use Rattle.hx_code.specs.declared.word.Ask.TheVariants.{Prints, Faults, Enters, Returns}
 use Rattle.hx_code.specs.Code.{store_words}
 use Rattle.hx_code.specs.Call.{bytes_of, fault_at}
-use Rattle.hx_code.specs.Local.{LocalView, loaded}
+use Rattle.hx_code.specs.Local.{LocalView}
 use Rattle.hx_code.specs.Fits.{FitsLocal, goes_on}
 use Rattle.hx_code.specs.Machine.{Machine, opens, prints}
 use Rattle.hx_word.specs.Plain.{one_store}
