@@ -1,0 +1,4 @@
+pub mod Stores
+pub mod Words
+pub mod Plain
+pub mod Agree
