@@ -8,3 +8,4 @@ pub mod Locals
 pub mod Regions
 pub mod Validation
 pub mod Shortcuts
+pub mod Alike

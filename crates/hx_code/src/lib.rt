@@ -8,6 +8,7 @@ pub mod local;
 mod number;
 mod operands;
 mod quick;
+mod same;
 pub mod shortcut;
 mod shorten;
 mod step;

@@ -1,7 +1,9 @@
 // Operands in a table, from its beginning.
 
-ghost use Rattle.std.specs.Prelude.{◌≡◌, ◌+◌, ◌-◌, ◌<◌, ◌≤◌, ◌∷◌};
+ghost use Rattle.std.specs.Prelude.{◌≡◌, ◌+◌, ◌-◌, ◌<◌, ◌≤◌, ◌∷◌, IsTrue, ◌↔◌};
 ghost use Rattle.hx_code.specs.Step.{tops};
+
+use crate::same::same_values;
 
 /// The topmost operand.
 #[inline(always)]
@@ -20,4 +22,12 @@ pub(crate) fn put(operands: &mut [i32; 256], height: usize, value: i32)
     ensures { tops operands.new (height + 1) ≡ value ∷ tops operands.old height }
 {
     operands[height] = value;
+}
+
+/// Whether two calls with so many operands have the same ones.
+pub(crate) fn same_operands(a: &[i32; 256], b: &[i32; 256], height: usize) -> bool
+    requires { height ≤ 256 }
+    ensures { IsTrue result ↔ (tops a.now height ≡ tops b.now height) }
+{
+    same_values(&a[..height], &b[..height])
 }

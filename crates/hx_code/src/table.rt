@@ -1,5 +1,8 @@
 // What is told of words beside them: functions, regions, and the place of each word in both.
 
+ghost use Rattle.std.specs.Prelude.{◌≡◌, IsTrue, ◌↔◌};
+
+use crate::same::{same_bytes, same_carried, same_numbers};
 use crate::word::Array;
 use std::marker::Model;
 
@@ -39,6 +42,18 @@ impl Model for Func {
     ghost view = { λ f. record { name = f.name.items; entry = f.entry; parameters = f.parameters; privates = f.privates } };
 }
 
+impl Func {
+    /// Whether both are the same.
+    pub(crate) fn is_same(&self, other: &Func) -> bool
+        ensures { IsTrue result ↔ (self.now ≡ other.now) }
+    {
+        self.entry == other.entry
+            && self.parameters == other.parameters
+            && self.privates == other.privates
+            && same_bytes(&self.name, &other.name)
+    }
+}
+
 /// A region.
 #[derive(Drop)]
 pub struct Region {
@@ -58,6 +73,18 @@ impl Model for Region {
     ghost Value = { RegionView };
 
     ghost view = { λ r. record { start = r.start; exit = r.exit; carried = r.carried.items; copied = r.copied.items } };
+}
+
+impl Region {
+    /// Whether both are the same.
+    pub(crate) fn is_same(&self, other: &Region) -> bool
+        ensures { IsTrue result ↔ (self.now ≡ other.now) }
+    {
+        self.start == other.start
+            && self.exit == other.exit
+            && same_carried(&self.carried, &other.carried)
+            && same_numbers(&self.copied, &other.copied)
+    }
 }
 
 /// What is told of the words of a program beside them.
