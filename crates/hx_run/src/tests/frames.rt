@@ -119,3 +119,26 @@ fn what_waits_goes_on_behind(rt: HostRuntime) -> Result<(), Fail> {
     shows(&rt, &frame, Action::None, 1, 1);
     Ok(())
 }
+
+fn are_one_code(rt: &impl Abort, one: &Code, other: &Code, wanted: bool) {
+    assert_eq!(rt; one.is_same(other), wanted);
+}
+
+fn are_one_state(rt: &impl Abort, one: &Local, other: &Local, wanted: bool) {
+    assert_eq!(rt; one.is_same(other), wanted);
+}
+
+#[test]
+fn codes_and_states_are_compared_by_their_parts(rt: HostRuntime) -> Result<(), Fail> {
+    let code = code_of(rt.alloc(), b"int c; int main(){ pwhile(c<2){ c=c+1; } }")?;
+    let again = code_of(rt.alloc(), b"int c; int main(){ pwhile(c<2){ c=c+1; } }")?;
+    let other = code_of(rt.alloc(), b"int c; int main(){ pwhile(c<3){ c=c+1; } }")?;
+    are_one_code(&rt, &code, &again, true);
+    are_one_code(&rt, &code, &other, false);
+    let start = start_of(rt.alloc(), &code)?;
+    let same = start_of(rt.alloc(), &again)?;
+    let main = Local::new(rt.alloc(), &code)?;
+    are_one_state(&rt, &start, &same, true);
+    are_one_state(&rt, &start, &main, false);
+    Ok(())
+}
