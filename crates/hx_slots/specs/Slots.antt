@@ -15,6 +15,7 @@ pub record SlotsView : Type 0 where
   pub slots : ℕ
   pub rooms : Capacities
 
+-- all have this room
 abbrev pub HaveRooms : Capacities → List SlotView → Type 0
 HaveRooms r [] = Unit {0}
 HaveRooms r (x ∷ xs) = (x.rooms ≡ r) × HaveRooms r xs
