@@ -1,6 +1,6 @@
 // A bounded map of written words.
 
-ghost use Rattle.std.specs.Prelude.{◌≡◌, ◌↔◌, ◌≤◌, [], length, None, IfOk, OnOk, OnErr, IsErr};
+ghost use Rattle.std.specs.Prelude.{◌≡◌, ◌↔◌, ◌≤◌, [], length, None, IfOk, OnOk, OnErr, IsErr, IsTrue};
 ghost use Rattle.hx_marks.specs.Table.{look, put, IsRising};
 ghost use Rattle.hx_buffer.specs.Overlay.{overlay};
 
@@ -57,6 +57,13 @@ impl WriteBuffer {
         ensures rising { IsRising self.now.entries }
     {
         self.words.entries()
+    }
+
+    /// Whether both have written the same words, each with the same value; how many they may have doesn't count.
+    pub fn is_same(&self, other: &WriteBuffer) -> bool
+        ensures { IsTrue result ↔ (self.now.entries ≡ other.now.entries) }
+    {
+        self.words.is_same(&other.words)
     }
 
     /// Forgets all words, and keeps the room for them.

@@ -2,7 +2,9 @@
 use Rattle.std.specs.Prelude.{◌≡◌}
 use Rattle.hx_marks.specs.Table.{Table}
 use Rattle.hx_code.specs.Code.{CodeView}
-use Rattle.hx_code.specs.Local.{LocalView, asks_of}
+use Rattle.hx_code.specs.declared.word.Ask.{Ask}
+use Rattle.hx_code.specs.declared.word.Ask.TheVariants.{Goes}
+use Rattle.hx_code.specs.Local.{LocalView, LocalWant, LocalAsks, LocalStuck, asks_of}
 use Rattle.hx_code.specs.Fits.{FitsLocal}
 use Rattle.hx_speculation.specs.Frame.{Frame, Need as Needed, IsTrue}
 use Rattle.hx_frame.specs.declared.action.Action.{Action}
@@ -32,6 +34,19 @@ action_needed code l _ = None
 
 abbrev pub action_of : FrameView → Action
 action_of f = action_needed f.code f.frame.here f.frame.need
+
+-- what a word asks; a stuck one, which valid code has none of, asks nothing
+abbrev pub asked_word : LocalWant → Ask
+asked_word LocalStuck = Goes
+asked_word (LocalAsks ask l) = ask
+
+abbrev pub ask_needed : CodeView → LocalView → Needed → Ask
+ask_needed code l Needed.ForHead = asked_word (asks_of code l)
+ask_needed code l _ = Goes
+
+-- what the word asks that a frame waits with
+abbrev pub waiting_ask : FrameView → Ask
+waiting_ask f = ask_needed f.code f.frame.here f.frame.need
 
 -- the stop that tells what a frame needs
 abbrev pub stop_needed : Action → Needed → Stop

@@ -3,15 +3,16 @@
 ghost use Rattle.std.specs.Prelude.{◌≡◌, IfOk};
 ghost use Rattle.hx_code.specs.Machine.{first_local};
 ghost use Rattle.hx_code.specs.Fits.{FitsLocal};
-ghost use Rattle.hx_speculation.specs.Frame.{begins, stretch, loaded, stored, holds, advanced, restarts, tagged};
+ghost use Rattle.hx_speculation.specs.Frame.{IsTrue, begins, stretch, loaded, stored, holds, advanced, restarts, tagged};
 ghost use Rattle.hx_frame.specs.Automaton.{ask_in};
-ghost use Rattle.hx_frame.specs.Frame.{FrameView, stop_of, action_of};
+ghost use Rattle.hx_frame.specs.Frame.{FrameView, stop_of, action_of, waiting_ask};
 
 use crate::action::{Action, Need, Stop};
 use crate::words::{asked, run_words};
 use hx_buffer::WriteBuffer;
 use hx_code::code::Code;
 use hx_code::local::Local;
+use hx_code::word::Ask;
 use hx_marks::Marks;
 use std::alloc::{AllocError, Global};
 use std::marker::Model;
@@ -223,7 +224,32 @@ impl<'c> Frame<'c> {
         &self.writes
     }
 
-    /// What it waits with.
+    /// What is kept of every frame: what it has read and written tells truly how it came from its start to where it is, and both fit
+    /// its code. It does nothing.
+    pub fn known(&self)
+        ensures truth { IsTrue (ask_in self.now.code) self.now.frame }
+        ensures start { FitsLocal self.now.code self.now.frame.start }
+        ensures here { FitsLocal self.now.code self.now.frame.here }
+    {
+        let _marks = &self.marks;
+    }
+
+    /// What the word asks that it waits with: of a print also its place, which `action` doesn't tell. `Goes` where it waits with nothing.
+    /// Nothing changes.
+    pub fn waits_with(&mut self) -> Ask
+        ensures ask { result ≡ waiting_ask self.old }
+        ensures same { self.new ≡ self.old }
+    {
+        match self.need {
+            Need::ForHead(_) => {
+                let code = self.code;
+                asked(code, &mut self.here).ask
+            }
+            _ => Ask::Goes,
+        }
+    }
+
+    /// What it waits with, as a stop tells it.
     pub fn action(&self) -> Action
         ensures { result ≡ action_of self.now }
     {

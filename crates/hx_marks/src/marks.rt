@@ -1,6 +1,6 @@
 // A bounded map from store words to values.
 
-ghost use Rattle.std.specs.Prelude.{◌≡◌, ◌↔◌, ◌≤◌, [], length, None, IfOk, OnOk, OnErr, IsErr};
+ghost use Rattle.std.specs.Prelude.{◌≡◌, ◌↔◌, ◌≤◌, [], length, None, IfOk, OnOk, OnErr, IsErr, IsTrue};
 ghost use Rattle.hx_marks.specs.Table.{look, put, count_below, IsRising};
 
 use std::alloc::{AllocError, Global};
@@ -97,6 +97,13 @@ impl Marks {
         &self.entries
     }
 
+    /// Whether both have the same words, each with the same value; how many they may have doesn't count.
+    pub fn is_same(&self, other: &Marks) -> bool
+        ensures { IsTrue result ↔ (self.now.entries ≡ other.now.entries) }
+    {
+        same_entries(&self.entries, &other.entries)
+    }
+
     /// Forgets all marks, and keeps the room for them.
     pub fn clear(&mut self)
         ensures { self.new ≡ record self.old { entries = [] } }
@@ -114,4 +121,10 @@ impl Marks {
         }
         place
     }
+}
+
+fn same_entries(a: &[Entry], b: &[Entry]) -> bool
+    ensures { IsTrue result ↔ (a.now ≡ b.now) }
+{
+    a == b
 }

@@ -6,12 +6,12 @@ mod carry;
 pub mod entry;
 mod iterations;
 pub mod laws;
-mod opened;
+pub mod opened;
 mod opening;
 pub mod plain;
 pub mod region_run;
 mod state;
-mod text;
+pub mod text;
 
 pub use entry::{Entry, RegionEnd};
 pub use hx_code::Stretched;

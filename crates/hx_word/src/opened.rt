@@ -20,7 +20,7 @@ pub struct Opened {
 
 /// The private words of the call that opened the region, once it has ended: only one that is left
 /// gives its cells back.
-pub(crate) fn words_behind(code: &Code, opened: &Opened, exit: Exit, store: &[i32]) -> [i32; 64]
+pub fn words_behind(code: &Code, opened: &Opened, exit: Exit, store: &[i32]) -> [i32; 64]
     requires region { opened.now.region < length code.now.regions }
     requires store { length store.now ≡ store_words code.now }
     ensures { WordsAfter code.now exit opened.now store.now result }

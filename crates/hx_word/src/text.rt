@@ -9,7 +9,7 @@ use itoa::Buffer;
 
 /// Adds a number with its line feed, or a byte, unless the text would pass its limit. The text
 /// stands behind so many bytes.
-pub(crate) fn print(text: &mut Vec<u8>, before: usize, output: Output) -> bool
+pub fn print(text: &mut Vec<u8>, before: usize, output: Output) -> bool
     requires room { TEXT_LIMIT ≤ vec_capacity text.old }
     requires fits { before + vec_len text.old ≤ TEXT_LIMIT }
     ensures told { result ≡ nat_le (before + length text.old.items + length (bytes_of output)) TEXT_LIMIT }

@@ -1,0 +1,10 @@
+pub mod Places
+pub mod Lengths
+pub mod Below
+pub mod Steps
+pub mod Kept
+pub mod Heads
+pub mod Starts
+pub mod Settling
+pub mod Committed
+pub mod Taking

@@ -1,0 +1,6 @@
+pub mod Board
+pub mod Known
+pub mod Keeps
+pub mod Calls
+pub mod Effect
+pub mod Ends
