@@ -14,10 +14,6 @@ use Rattle.hx_answer.specs.declared.status.Status.{Status}
 use Rattle.hx_answer.specs.declared.status.Status.TheVariants as status
 use Rattle.hx_answer.specs.Statuses.{status_of_end}
 
--- the settings of so many workers, with the capacities that no option names
-abbrev pub settings_for : ℕ → Settings
-settings_for workers = record { workers = workers; marks = 512; buffer = 64 }
-
 -- a text is shown: unless the device failed, the output has taken it whole
 abbrev pub ShowsText : List ℕ → Option (List ℕ) → Option (List ℕ) → Status → Type 0
 ShowsText text old new status.Done = Appends old new text
@@ -42,15 +38,15 @@ pub record IsRefused (Says : Refusal → Type 0) : Type 0 where
   pub certain : is_memory refusal ≡ false
 
 -- a refusal of a run: 60 is that of the settings
-abbrev pub RefusesWith : List ℕ → List ℤ → ℕ → Refusal → Type 0
-RefusesWith source input workers refusal.Settings = AreInRange (settings_for workers) → ⊥
-RefusesWith source input workers e = RefusesRun source input e
+abbrev pub RefusesWith : List ℕ → List ℤ → Settings → Refusal → Type 0
+RefusesWith source input settings refusal.Settings = AreInRange settings → ⊥
+RefusesWith source input settings e = RefusesRun source input e
 
 -- the command `run`
-abbrev pub RunAnswer : List ℕ → List ℤ → ℕ → Option (List ℕ) → Option (List ℕ) → Status → Type 0
-RunAnswer source input workers old new status.Refused = IsRefused (RefusesWith source input workers) × (new ≡ old)
-RunAnswer source input workers old new status.Memory = new ≡ old
-RunAnswer source input workers old new s = IsTold source input old new s
+abbrev pub RunAnswer : List ℕ → List ℤ → Settings → Option (List ℕ) → Option (List ℕ) → Status → Type 0
+RunAnswer source input settings old new status.Refused = IsRefused (RefusesWith source input settings) × (new ≡ old)
+RunAnswer source input settings old new status.Memory = new ≡ old
+RunAnswer source input settings old new s = IsTold source input old new s
 
 -- the command `plain`: a run that isn't over is refused as well
 abbrev pub PlainAnswer : List ℕ → List ℤ → ℕ → Option (List ℕ) → Option (List ℕ) → Status → Type 0

@@ -4,38 +4,29 @@ ghost use Rattle.hx_answer.specs.Answers.{RunAnswer, PlainAnswer, CheckAnswer, W
 
 use crate::status::{Status, show_finish, show_text, tell_memory, tell_not_ended, tell_refusal};
 use hx_lower::listing;
-use hx_run::{PlainRan, compile, run, run_plain};
+use hx_run::{PlainRan, Unwatched, compile, run, run_plain};
 use hx_tree::outcome::Settings;
 use std::alloc::Global;
 use std::io::Write;
 use std::sync::Wait;
+use std::thread::Threads;
 
-/// The words that an iteration may have read and written, in settings that no option names.
-const MARKS: u32 = 512;
-
-const BUFFER: u32 = 64;
-
-/// Runs a source on an input, to its end, and writes what it prints.
+/// Runs a source on an input, to its end, its marked loops on threads, and writes what it prints.
 ///
 /// Where the status is that of a normal end or of a fault, what `out` has taken is the whole text of the program of the source,
 /// and its end is that one. A refusal means what it means for `hx_run::run`.
-pub fn answer_run<W: Write, E: Write>(
+pub fn answer_run<R: Threads + Wait + Sync, W: Write, E: Write>(
     alloc: Global,
-    rt: &impl Wait,
+    rt: &R,
     source: &[u8],
     input: &[i32],
-    workers: u32,
+    settings: Settings,
     out: &mut W,
     err: &mut E,
 ) -> Status
-    ensures { RunAnswer source.now input.now workers (W.contents out.old) (W.contents out.new) result }
+    ensures { RunAnswer source.now input.now settings (W.contents out.old) (W.contents out.new) result }
 {
-    let settings = Settings {
-        workers,
-        marks: MARKS,
-        buffer: BUFFER,
-    };
-    match run(alloc, rt, source, input, settings) {
+    match run(alloc, rt, source, input, settings, &Unwatched) {
         Ok(finish) => show_finish(&finish, out, err),
         Err(refusal) => tell_refusal(err, &refusal),
     }

@@ -1,12 +1,12 @@
 -- What is written lies in the store, and a store that is a list is laid over as one that is a function.
-use Rattle.std.proofs.Common.{◌≡◌, ℕ, zero, suc, ◌+◌, ◌<◌, ◌≤◌, ℤ, pos, List, [], ◌∷◌, ◌++◌, length, map, Option, Some, None, Bool, true, false, refl, ap, sym, subst, ◌∙◌, arith}
-use Rattle.std.specs.Prelude.{◌==◌, nat_lt, if◌then◌else◌, slice_index_or}
+use Rattle.std.proofs.Common.{◌≡◌, ℕ, zero, suc, ◌+◌, ◌<◌, ◌≤◌, ℤ, pos, List, [], ◌∷◌, ◌++◌, length, map, Some, None, refl, ap, sym, subst, ◌∙◌, arith}
+use Rattle.std.specs.Prelude.{◌==◌, nat_lt}
 use std.Path.{fun_ext}
 use Rattle.std.proofs.lemmas.Bool.Decides.{nat_tests}
 use Rattle.hx_marks.specs.Table.{Table, look, put}
 use Rattle.hx_buffer.specs.Overlay.{or_else, overlay_from, overlay}
 use Rattle.hx_code.specs.Local.{LocalView}
-use Rattle.hx_speculation.specs.Iteration.{Store, overlay as laid_over}
+use Rattle.hx_speculation.specs.Iteration.{overlay as laid_over}
 use Rattle.hx_speculation.specs.Slots.{Slot, is_at, is_violated, restarted, with_mark, with_write, squashed, restarted_from, first_attempt}
 use Rattle.hx_speculation.proofs.Stores.{if_cases}
 use Rattle.hx_regions.specs.Region.{store_of}

@@ -1,22 +1,17 @@
 -- What is kept once the head has settled.
-use Rattle.std.proofs.Common.{◌≡◌, ℕ, suc, ◌+◌, ◌-◌, ◌<◌, ◌≤◌, ◌^◌, List, [], ◌∷◌, length, Some, true, refl, ap, sym, subst, ◌∙◌, arith}
-use Rattle.hx_tree.specs.declared.outcome.Counts.{Counts}
+use Rattle.std.proofs.Common.{◌≡◌, ℕ, ◌+◌, ◌≤◌, ◌^◌, List, ◌∷◌, length, true, ap, sym, subst, ◌∙◌, arith}
 use Rattle.hx_code.specs.declared.word.Exit.{Exit}
 use Rattle.hx_code.specs.Code.{store_words}
 use Rattle.hx_code.specs.Local.{LocalView}
-use Rattle.hx_code.specs.Region.{held}
 use Rattle.hx_speculation.specs.Frame.{Frame, IsTracked}
 use Rattle.hx_speculation.specs.Slots.{Slot}
 use Rattle.hx_speculation.specs.Board.{Answer, Token, Settle}
-use Rattle.hx_board.specs.Board.{BoardView, region_on, board_of}
+use Rattle.hx_board.specs.Board.{BoardView, region_on}
 use Rattle.hx_board.specs.Calls.{Does}
 use Rattle.hx_board.specs.Known.{IsBelow, WriteBelow, IsKept}
 use Rattle.hx_board.proofs.Lengths.{long_overlay}
 use Rattle.hx_board.proofs.Settling.{gone_on, passed_on, ended_at}
 use Rattle.hx_board.proofs.Steps.{sound_after, becomes}
-
-held_next : (k : ℕ) → held (held k + 1) ≡ held (k + 1)
-held_next k = omega arith
 
 module _ (b : BoardView) (t : Token) (f : Frame LocalView) (x : Slot LocalView) (later : List (Slot LocalView)) (at : b.active ≡ x ∷ later) (tracked : IsTracked (region_on b.setup).ask f) (k : IsKept b) where
   both_below : WriteBelow (store_words b.setup.code) (x ∷ later)
@@ -31,8 +26,6 @@ module _ (b : BoardView) (t : Token) (f : Frame LocalView) (x : Slot LocalView) 
     sound = sound_after b (gone_on b x later q text) (Settle t f true) (λ _. tracked) (becomes b (gone_on b x later q text) (Settle t f true) answer is) k.sound;
     long = long_overlay x.buffer b.store ∙ k.long;
     below = (tt, both_below.1);
-    regions = k.regions;
-    turns = k.turns;
     numbers = subst (λ n. b.head + n ≤ 2 ^ 64) (ap length at) k.numbers;
   }
 
@@ -41,8 +34,6 @@ module _ (b : BoardView) (t : Token) (f : Frame LocalView) (x : Slot LocalView) 
     sound = sound_after b (passed_on b x later) (Settle t f true) (λ _. tracked) (becomes b (passed_on b x later) (Settle t f true) answer is) k.sound;
     long = long_overlay x.buffer b.store ∙ k.long;
     below = both_below.1;
-    regions = k.regions;
-    turns = ap (λ n. held (n + 1)) k.turns ∙ held_next b.head;
     numbers = let few = k.numbers in let long = ap length at in omega (arith, few, long);
   }
 
@@ -51,7 +42,5 @@ module _ (b : BoardView) (t : Token) (f : Frame LocalView) (x : Slot LocalView) 
     sound = sound_after b (ended_at b x later e) (Settle t f true) (λ _. tracked) (becomes b (ended_at b x later e) (Settle t f true) answer is) k.sound;
     long = long_overlay x.buffer b.store ∙ k.long;
     below = tt;
-    regions = k.regions;
-    turns = k.turns;
     numbers = let few = k.numbers in omega (arith, few);
   }

@@ -6,7 +6,7 @@ use Rattle.hx_code.specs.Local.{LocalView}
 use Rattle.hx_speculation.specs.Slots.{Slot, of_worker}
 use Rattle.hx_speculation.specs.Board.{Answer, Board, Head, Yours, NotYet, Squashed, asks_head, gives_head}
 use Rattle.hx_slots.specs.Slots.{numbered_at}
-use Rattle.hx_board.specs.Board.{BoardView, region_on, board_of, is_over}
+use Rattle.hx_board.specs.Board.{BoardView, board_of, is_over}
 use Rattle.hx_board.specs.Calls.{Does}
 use Rattle.hx_board.specs.Effect.{has_attempt}
 use Rattle.hx_board.proofs.Kept.{IsPlace}

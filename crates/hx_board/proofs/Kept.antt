@@ -1,5 +1,5 @@
 -- What load, store and abandon do, and what is kept through them.
-use Rattle.std.proofs.Common.{◌≡◌, ℕ, zero, suc, ◌+◌, ◌<◌, ◌≤◌, ◌^◌, ℤ, List, [], ◌∷◌, length, Option, Some, None, Bool, true, false, refl, ap, sym, subst, ◌∙◌, arith}
+use Rattle.std.proofs.Common.{◌≡◌, ℕ, ◌+◌, ◌<◌, ◌≤◌, ◌^◌, ℤ, List, length, Bool, true, false, refl, ap, sym, subst, ◌∙◌, arith}
 use Rattle.std.specs.Prelude.{if◌then◌else◌}
 use Rattle.hx_tree.specs.declared.outcome.Counts.{Counts}
 use Rattle.hx_code.specs.Code.{store_words}
@@ -26,19 +26,9 @@ load_kept b w attempt a v over f k =
     record {
       sound = sound_after b after (Load w attempt a) tt is k.sound;
       long = k.long;
-      regions = k.regions;
-      turns = k.turns;
       below = below_mark (store_words b.setup.code) w attempt a v b.active k.below;
       numbers = subst (λ n. b.head + n ≤ 2 ^ 64) (sym (long_mark w attempt a v b.active)) k.numbers;
     }
-
-violates_turns : (n : ℕ) (c : Counts) → (violates n c).turns ≡ c.turns
-violates_turns zero c = refl
-violates_turns (suc n) c = refl
-
-violates_regions : (n : ℕ) (c : Counts) → (violates n c).regions ≡ c.regions
-violates_regions zero c = refl
-violates_regions (suc n) c = refl
 
 -- a store that is done
 pub store_kept : (b : BoardView) (w attempt a : ℕ) (v : ℤ) (n : ℕ) (counts : Counts) → is_over b ≡ false → Written.Restarts n ≡ written b.setup.capacities.buffer w attempt a v b.active → counts ≡ violates n b.counts → a < length b.store → IsKept b → IsKept (record b { active = with_write w attempt a v b.active; counts = counts })
@@ -49,8 +39,6 @@ store_kept b w attempt a v n counts over f e lt k =
     record {
       sound = sound_after b after (Write w attempt a v) tt is k.sound;
       long = k.long;
-      regions = ap (λ (z : Counts). z.regions) e ∙ violates_regions n b.counts ∙ k.regions;
-      turns = ap (λ (z : Counts). z.turns) e ∙ violates_turns n b.counts ∙ k.turns;
       below = below_write (store_words b.setup.code) w attempt a v b.active (subst (λ m. a < m) k.long lt) k.below;
       numbers = subst (λ m. b.head + m ≤ 2 ^ 64) (sym (long_write w attempt a v b.active)) k.numbers;
     }
@@ -87,8 +75,6 @@ pub abandon_kept : (b : BoardView) (w n : ℕ) → Becomes b (Abandon w) (record
 abandon_kept b w n is k = record {
   sound = sound_after b (record b { active = restarted_from w b.active; counts = record b.counts { abandons = n } }) (Abandon w) tt is k.sound;
   long = k.long;
-  regions = k.regions;
-  turns = k.turns;
   below = below_abandon (store_words b.setup.code) w b.active k.below;
   numbers = subst (λ m. b.head + m ≤ 2 ^ 64) (sym (long_restarted w b.active)) k.numbers;
 }

@@ -1,9 +1,9 @@
 -- A call on the active iterations leaves as many.
-use Rattle.std.proofs.Common.{◌≡◌, ℕ, suc, ℤ, List, [], ◌∷◌, length, map, Bool, true, false, refl, ap, ◌∙◌}
-use Rattle.std.specs.Prelude.{◌==◌, if◌then◌else◌}
+use Rattle.std.proofs.Common.{◌≡◌, ℕ, suc, ℤ, List, [], ◌∷◌, length, refl, ap}
+use Rattle.std.specs.Prelude.{◌==◌}
 use Rattle.std.proofs.lemmas.List.{length-map}
 use Rattle.hx_code.specs.Local.{LocalView}
-use Rattle.hx_marks.specs.Table.{look, put}
+use Rattle.hx_marks.specs.Table.{look}
 use Rattle.hx_buffer.specs.Overlay.{or_else, overlay_from, overlay}
 use Rattle.hx_marks.specs.Table.{Table}
 use Rattle.hx_speculation.specs.Slots.{Slot, is_at, is_violated, restarted, with_mark, with_write, squashed, restarted_from}

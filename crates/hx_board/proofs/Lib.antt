@@ -8,3 +8,4 @@ pub mod Starts
 pub mod Settling
 pub mod Committed
 pub mod Taking
+pub mod Plainly

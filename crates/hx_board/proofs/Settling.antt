@@ -1,7 +1,7 @@
 -- What settling comes to.
-use Rattle.std.proofs.Common.{◌≡◌, ℕ, zero, suc, ◌+◌, ◌-◌, ◌<◌, ◌≤◌, ◌^◌, List, [], ◌∷◌, ◌++◌, length, Option, Some, None, Bool, true, false, ◌&&◌, refl, ap, sym, subst, ◌∙◌, arith}
-use Rattle.std.specs.Prelude.{◌==◌, nat_le, nat_lt, if◌then◌else◌}
-use Rattle.std.proofs.lemmas.Bool.{eq-eqb, and_from, false≢true}
+use Rattle.std.proofs.Common.{◌≡◌, ℕ, ◌+◌, ◌-◌, ◌<◌, ◌≤◌, ◌^◌, List, [], ◌∷◌, ◌++◌, length, Some, Bool, true, false, refl, ap, sym, subst, ◌∙◌, arith}
+use Rattle.std.specs.Prelude.{◌==◌, nat_lt, if◌then◌else◌}
+use Rattle.std.proofs.lemmas.Bool.{eq-eqb, and_from}
 use Rattle.std.proofs.lemmas.Bool.Decides.{nat_tests}
 use Rattle.std.proofs.lemmas.List.{append-nil}
 use Rattle.hx_tree.specs.declared.outcome.Counts.{Counts}
@@ -10,7 +10,7 @@ use Rattle.hx_buffer.specs.Overlay.{overlay}
 use Rattle.hx_code.specs.declared.word.Ask.{Ask}
 use Rattle.hx_code.specs.declared.word.Ask.TheVariants.{Goes, Loads, Stores, Prints, Faults, Calls, Enters, Turns, Leaves, Returns}
 use Rattle.hx_code.specs.declared.word.Exit.{Exit}
-use Rattle.hx_code.specs.Code.{CodeView, store_words}
+use Rattle.hx_code.specs.Code.{CodeView}
 use Rattle.hx_code.specs.Call.{bytes_of}
 use Rattle.hx_code.specs.Local.{LocalView, LocalWant, LocalAsks, LocalStuck, asks_of}
 use Rattle.hx_code.specs.Region.{held}
@@ -18,16 +18,16 @@ use Rattle.hx_frame.specs.declared.frame.Tag.{Tag}
 use Rattle.hx_frame.specs.Automaton.{ask_in, asked_by}
 use Rattle.hx_frame.specs.Frame.{ask_needed, asked_word}
 use Rattle.hx_speculation.specs.Iteration.{Ask as Asked}
-use Rattle.hx_speculation.specs.Frame.{Frame, Need, Nothing, ForLoad, ForStore, ForHead, Held, begins, behind, advanced}
+use Rattle.hx_speculation.specs.Frame.{Frame, Need, Nothing, ForLoad, ForStore, ForHead, Held, begins, behind}
 use Rattle.hx_speculation.specs.Slots.{Slot}
 use Rattle.hx_speculation.specs.Board.{Answer, Board, Token, Settle, Again, Passed, Ended, NotThisFrame, same_table, is_of_slot, commits, ends, passes, spends, settles, settles_need, settles_ask, refuses, call}
-use Rattle.hx_speculation.specs.Region.{Region}
 use Rattle.hx_speculation.proofs.Stores.{and_left, and_right, eq_true, same_table_holds}
 use Rattle.hx_regions.specs.Region.{store_of}
-use Rattle.hx_regions.specs.Same.{same_local, same_local_holds, same_local_itself, same_value_itself}
+use Rattle.hx_regions.specs.Same.{same_local}
+use Rattle.hx_regions.specs.SameHolds.{same_local_holds, same_local_itself, same_value_itself}
 use Rattle.hx_board.specs.declared.effect.Effect.{Effect}
 use Rattle.hx_board.specs.declared.effect.Effect.TheVariants.{GoesOn, Passes, Ends}
-use Rattle.hx_board.specs.Board.{BoardView, opened_at, region_on, board_of, is_over}
+use Rattle.hx_board.specs.Board.{BoardView, region_on, board_of, is_over}
 use Rattle.hx_board.specs.Calls.{Does}
 use Rattle.hx_board.specs.Effect.{IsOfSlot, IsDue, has_room, effect_of, printed_by}
 use Rattle.hx_board.specs.Known.{IsBelow}

@@ -1,5 +1,5 @@
 -- What asking for an iteration comes to.
-use Rattle.std.proofs.Common.{◌≡◌, ℕ, suc, ◌+◌, ◌<◌, ◌≤◌, ◌^◌, List, [], ◌∷◌, ◌++◌, length, Some, None, true, false, refl, ap, sym, subst, ◌∙◌, arith, length-append}
+use Rattle.std.proofs.Common.{◌≡◌, ℕ, ◌+◌, ◌<◌, ◌≤◌, ◌^◌, [], ◌∷◌, ◌++◌, length, Some, true, false, refl, ap, sym, ◌∙◌, arith, length-append}
 use Rattle.std.specs.Prelude.{nat_lt, if◌then◌else◌, slice_get}
 use Rattle.std.proofs.lemmas.Bool.Decides.{nat_tests}
 use Rattle.hx_code.specs.Code.{store_words}
@@ -7,7 +7,7 @@ use Rattle.hx_code.specs.Local.{LocalView}
 use Rattle.hx_code.specs.Region.{opening}
 use Rattle.hx_speculation.specs.Frame.{Frame, begins}
 use Rattle.hx_speculation.specs.Slots.{Slot, first_attempt, of_worker}
-use Rattle.hx_speculation.specs.Board.{Answer, Board, Start, Go, Ended, starts, starts_next, spends}
+use Rattle.hx_speculation.specs.Board.{Start, Go, Ended, starts, starts_next, spends}
 use Rattle.hx_board.specs.Board.{BoardView, opened_at, region_on, board_of, is_over}
 use Rattle.hx_board.specs.Calls.{Does}
 use Rattle.hx_board.specs.Known.{IsKept}
@@ -46,7 +46,5 @@ start_kept b w q f lt is k = record {
   sound = sound_after b (with_next b w q) (Start w true) tt (becomes b (with_next b w q) (Start w true) (Go f) is) k.sound;
   long = k.long;
   below = below_last (store_words b.setup.code) w q b.active k.below;
-  regions = k.regions;
-  turns = k.turns;
   numbers = let long = length-append b.active (first_attempt w q ∷ []) in omega (arith, lt, long);
 }

@@ -1,5 +1,5 @@
 -- A call of the definition on the board that contracts see, and what is kept through it.
-use Rattle.std.proofs.Common.{◌≡◌, ℕ, zero, suc, ◌+◌, ◌-◌, ◌<◌, ◌≤◌, ◌^◌, ℤ, List, [], ◌∷◌, length, Option, Some, None, Bool, true, false, refl, ap, sym, subst, ◌∙◌, arith}
+use Rattle.std.proofs.Common.{◌≡◌, ℕ, zero, suc, ◌+◌, ◌≤◌, List, [], ◌∷◌, length, Option, Some, None, Bool, true, false, refl, ap, sym, subst, ◌∙◌}
 use Rattle.std.specs.Prelude.{if◌then◌else◌, slice_get}
 use Rattle.hx_tree.specs.declared.limits.TheConstants.{TEXT_LIMIT}
 use Rattle.hx_code.specs.declared.word.Exit.{Exit}
@@ -8,13 +8,12 @@ use Rattle.hx_code.specs.Valid.{IsValid}
 use Rattle.hx_code.specs.Fits.{FitsLocal}
 use Rattle.hx_code.specs.Region.{opening}
 use Rattle.hx_word.specs.Running.{IsOpened}
-use Rattle.hx_speculation.specs.Iteration.{Store}
-use Rattle.hx_speculation.specs.Region.{Plain, Going, Over, Comes}
+use Rattle.hx_speculation.specs.Region.{Comes}
 use Rattle.hx_speculation.specs.Slots.{Slot}
-use Rattle.hx_speculation.specs.Board.{Board, Call, Answer, Ended, has_ended, does, call}
+use Rattle.hx_speculation.specs.Board.{Call, Answer, Ended, has_ended, does, call}
 use Rattle.hx_speculation.specs.Sound.{IsSound, HasTrackedFrame, AreOpening, RestIsOpening, starts_of, shown}
 use Rattle.hx_speculation.proofs.Calls.{call_sound}
-use Rattle.hx_regions.specs.Region.{store_of, StandsIn, FitsPlain}
+use Rattle.hx_regions.specs.Region.{store_of}
 use Rattle.hx_regions.proofs.Plain.{comes_fits, opening_stands}
 use Rattle.hx_board.specs.Board.{BoardView, Setup, opened_at, region_on, board_of, is_over}
 use Rattle.hx_board.specs.Calls.{Does, Becomes}

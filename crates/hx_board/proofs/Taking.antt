@@ -6,11 +6,9 @@ use Rattle.hx_code.specs.declared.word.Ask.{Ask}
 use Rattle.hx_code.specs.declared.word.Ask.TheVariants.{Goes, Loads, Stores, Prints, Faults, Calls, Enters, Turns, Leaves, Returns}
 use Rattle.hx_code.specs.declared.word.Exit.{Exit}
 use Rattle.hx_code.specs.Call.{bytes_of}
-use Rattle.hx_code.specs.Code.{CodeView}
 use Rattle.hx_frame.specs.Frame.{FrameView, waiting_ask, ask_needed}
 use Rattle.hx_frame.specs.Automaton.{ask_in}
-use Rattle.hx_speculation.specs.Frame.{Frame, IsTrue, IsTracked, advanced, begins}
-use Rattle.hx_code.specs.Local.{LocalView}
+use Rattle.hx_speculation.specs.Frame.{IsTrue, IsTracked, advanced, begins}
 use Rattle.hx_board.specs.declared.effect.Effect.{Effect}
 use Rattle.hx_board.specs.declared.effect.Effect.TheVariants.{GoesOn, Passes, Ends}
 use Rattle.hx_board.specs.Board.{BoardView, region_on}

@@ -1,6 +1,5 @@
 -- What the head does with what it waits with, and when it may.
 use Rattle.std.specs.Prelude.{◌≡◌, ℕ, ◌+◌, List, [], ◌∷◌, length, Option, Some, None, Bool, false, ◌==◌, nat_le, if◌then◌else◌}
-use Rattle.hx_tree.specs.declared.token.Pos.{Pos}
 use Rattle.hx_tree.specs.declared.outcome.FaultKind.TheVariants.{TextFull}
 use Rattle.hx_tree.specs.declared.limits.TheConstants.{TEXT_LIMIT}
 use Rattle.hx_code.specs.declared.word.Ask.{Ask}

@@ -1,7 +1,6 @@
 -- What every board keeps.
-use Rattle.std.specs.Prelude.{◌≡◌, ℕ, ◌+◌, ◌≤◌, ◌^◌, length, vec_capacity}
+use Rattle.std.specs.Prelude.{◌≡◌, ◌≤◌, vec_capacity}
 use Rattle.hx_tree.specs.declared.limits.TheConstants.{TEXT_LIMIT}
-use Rattle.hx_code.specs.Code.{store_words}
 use Rattle.hx_word.specs.Entry.{EntryFits}
 use Rattle.hx_word.specs.Opening.{opened_of}
 use Rattle.hx_word.specs.Running.{IsOpened}

@@ -8,7 +8,7 @@ ghost use Rattle.hx_board.specs.Board.{BoardView, rooms_of, is_over, opening_boa
 ghost use Rattle.hx_board.specs.Effect.{has_attempt, IsDue};
 ghost use Rattle.hx_board.specs.Calls.{Does, Becomes, IsOwnCode, IsOwnFrame, started_answer, StartsFrame, loaded_answer, stored_answer, headed_answer, alive_answer, settled_answer, SettlesFrame};
 ghost use Rattle.hx_board.specs.Known.{IsKept};
-ghost use Rattle.hx_board.specs.Ends.{IsFor, state_of, EndsAs};
+ghost use Rattle.hx_board.specs.Ends.{IsFor, state_of, EndsAs, EndsPlainly};
 
 use crate::answers::{Alive, Headed, Loaded, Settled, Started, State, Stored};
 use crate::effect::{Effect, count_restarts, first_counts, takes_effect};
@@ -391,10 +391,12 @@ impl<'c> Board<'c> {
     }
 
     /// The region's end, exactly where the board was made for this job and this entry and the region has ended: how, the committed store,
-    /// the private words of the call that opened it, the region's text and what was counted. Else the board as it is.
+    /// the private words of the call that opened it, the region's text and what was counted. Beside what speculation counts this is the
+    /// end of the plain region of this job from this entry. Else the board as it is.
     pub fn finish(self, job: &Job<'_>, entry: &Entry) -> Result<RegionEnd, Board<'c>>
         ensures exact { IsOk result ↔ (IsFor self.entry.setup job.now.code.now job.now.region entry.now × (self.entry.exit ≢ None)) }
         ensures end { IfOk result (λ e. EndsAs self.entry e) }
+        ensures plain { IfOk result (λ e. EndsPlainly job.now.code.now job.now.region entry.now e) }
         ensures back { IfErr result (λ b. b ≡ self.entry) }
     {
         let Some(exit) = self.exit else {
@@ -403,7 +405,9 @@ impl<'c> Board<'c> {
         if !self.is_for(job, entry) {
             return Err(self);
         }
-        let words = words_behind(self.job.code, &self.opened, exit, &self.store);
+        let code = self.job.code;
+        code.known();
+        let words = words_behind(code, &self.opened, exit, &self.store);
         let Board {
             job: _,
             entry: kept,

@@ -1,5 +1,5 @@
 -- Words written one after another are an overlay.
-use Rattle.std.proofs.Common.{◌≡◌, ℕ, suc, zero, ℤ, ◌+◌, ◌<◌, [], ◌∷◌, List, ◌==◌, true, false, None, refl, sym, ap, ◌∙◌, arith, slice_set}
+use Rattle.std.proofs.Common.{◌≡◌, ℕ, suc, zero, ℤ, ◌+◌, ◌<◌, [], ◌∷◌, List, ◌==◌, true, false, Some, None, refl, sym, ap, ◌∙◌, arith, slice_get, slice_set, drop}
 use Rattle.std.proofs.lemmas.Bool.Decides.{nat_tests}
 use Rattle.hx_marks.specs.declared.marks.Entry.{Entry}
 use Rattle.hx_marks.specs.Table.{Table, IsRising, look}
@@ -10,6 +10,12 @@ use Rattle.hx_buffer.specs.Overlay.{or_else, overlay_from, overlay}
 abbrev pub written : Table → List ℤ → List ℤ
 written [] s = s
 written (e ∷ es) s = written es (slice_set s e.word e.value)
+
+-- the next one of them
+pub written_next : (t : Table) (k : ℕ) (e : Entry) (s : List ℤ) → slice_get t k ≡ Some e → written (drop k t) s ≡ written (drop (suc k) t) (slice_set s e.word e.value)
+written_next [] k e s h = absurd cc
+written_next (x ∷ xs) zero e s h = let same : x ≡ e = cc in ap (λ (y : Entry). written xs (slice_set s y.word y.value)) same
+written_next (x ∷ xs) (suc k) e s h = written_next xs k e s h
 
 -- a word below all of these has no part in them
 overlay_past : (n : ℕ) (e : Entry) (es : Table) (s : List ℤ) → e.word < n → overlay_from n (e ∷ es) s ≡ overlay_from n es s

@@ -1,6 +1,6 @@
 // A bounded map of written words.
 
-ghost use Rattle.std.specs.Prelude.{◌≡◌, ◌↔◌, ◌≤◌, [], length, None, IfOk, OnOk, OnErr, IsErr, IsTrue};
+ghost use Rattle.std.specs.Prelude.{◌≡◌, ◌↔◌, ◌≤◌, ◌<◌, [], length, slice_get, Some, None, IfOk, OnOk, OnErr, IsErr, IsTrue};
 ghost use Rattle.hx_marks.specs.Table.{look, put, IsRising};
 ghost use Rattle.hx_buffer.specs.Overlay.{overlay};
 
@@ -51,12 +51,27 @@ impl WriteBuffer {
         self.words.mark(word, value)
     }
 
-    /// The written words, in rising order.
-    pub fn entries(&self) -> &[Entry]
-        ensures all { result.now ≡ self.now.entries }
-        ensures rising { IsRising self.now.entries }
+    /// How many words are written.
+    pub fn len(&self) -> usize
+        ensures { result ≡ length self.now.entries }
     {
-        self.words.entries()
+        self.words.len()
+    }
+
+    /// The written word at a place, in their rising order.
+    pub fn at(&self, place: usize) -> Entry
+        requires { place < length self.now.entries }
+        ensures { slice_get self.now.entries place ≡ Some result }
+    {
+        self.words.at(place)
+    }
+
+    /// What every buffer keeps: the words rise, and there are no more than there may be. It does nothing.
+    pub fn known(&self)
+        ensures rising { IsRising self.now.entries }
+        ensures few { length self.now.entries ≤ self.now.capacity }
+    {
+        self.words.known();
     }
 
     /// Whether both have written the same words, each with the same value; how many they may have doesn't count.
@@ -78,17 +93,18 @@ impl WriteBuffer {
         ensures store { store.new ≡ overlay self.old.entries store.old }
         ensures empty { self.new ≡ record self.old { entries = [] } }
     {
-        lay_over(self.words.entries(), store);
+        lay_over(&self.words, store);
         self.clear();
     }
 }
 
 // Writes words into a store, one after another.
-fn lay_over(entries: &[Entry], store: &mut [i32])
-    requires { IsRising entries.now }
-    ensures { store.new ≡ overlay entries.now store.old }
+fn lay_over(words: &Marks, store: &mut [i32])
+    ensures { store.new ≡ overlay words.now.entries store.old }
 {
-    for entry in entries {
+    words.known();
+    for k in 0..words.len() {
+        let entry = words.at(k);
         let place = entry.word as usize;
         if place < store.len() {
             store[place] = entry.value;

@@ -1,6 +1,6 @@
 // A bounded map from store words to values.
 
-ghost use Rattle.std.specs.Prelude.{◌≡◌, ◌↔◌, ◌≤◌, [], length, None, IfOk, OnOk, OnErr, IsErr, IsTrue};
+ghost use Rattle.std.specs.Prelude.{◌≡◌, ◌↔◌, ◌≤◌, ◌<◌, [], length, slice_get, Some, None, IfOk, OnOk, OnErr, IsErr, IsTrue};
 ghost use Rattle.hx_marks.specs.Table.{look, put, count_below, IsRising};
 
 use std::alloc::{AllocError, Global};
@@ -89,12 +89,27 @@ impl Marks {
         }
     }
 
-    /// The marks, in rising order of their words.
-    pub fn entries(&self) -> &[Entry]
-        ensures all { result.now ≡ self.now.entries }
-        ensures rising { IsRising self.now.entries }
+    /// How many words are marked.
+    pub fn len(&self) -> usize
+        ensures { result ≡ length self.now.entries }
     {
-        &self.entries
+        self.entries.as_slice().len()
+    }
+
+    /// The mark at a place, in rising order of the words.
+    pub fn at(&self, place: usize) -> Entry
+        requires { place < length self.now.entries }
+        ensures { slice_get self.now.entries place ≡ Some result }
+    {
+        self.entries.as_slice()[place]
+    }
+
+    /// What every table of marks keeps: the words rise, and there are no more than there may be. It does nothing.
+    pub fn known(&self)
+        ensures rising { IsRising self.now.entries }
+        ensures few { length self.now.entries ≤ self.now.capacity }
+    {
+        let _entries = &self.entries;
     }
 
     /// Whether both have the same words, each with the same value; how many they may have doesn't count.

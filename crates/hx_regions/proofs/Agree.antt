@@ -66,10 +66,10 @@ module _ (code : CodeView) (o : Opened) where
       (subst (λ u. IsBoth (region_step code (at_state q h.0 text k None)) (step (region_in code o) (Going q u text k))) (sym h.3) next)
   step_both valid z (Over e t text k) f h = (h.0, h.1, h.2, ap (region_step code) h.3, h.4)
 
-  shows : (z : RegionState) (p : Plain LocalView) → IsBoth z p → Shows z p
+  shows : (z : RegionState) (p : Plain LocalView) → IsBoth z p → Shows o z p
   shows z (Going q t text k) h =
-      subst (λ x. Shows x (Going q t text k)) (sym h.2) (record { exit = refl; store = sym h.3; text = refl; turns = refl }, refl, refl)
-  shows z (Over e t text k) h = subst (λ x. Shows x (Over e t text k)) (sym h.3) (record { exit = refl; store = sym h.4; text = refl; turns = refl })
+      subst (λ x. Shows o x (Going q t text k)) (sym h.2) (record { opened = refl; iteration = refl; exit = refl; store = sym h.3; text = refl; turns = refl }, refl)
+  shows z (Over e t text k) h = subst (λ x. Shows o x (Over e t text k)) (sym h.3) (record { opened = refl; iteration = refl; exit = refl; store = sym h.4; text = refl; turns = refl })
 
   long_of : (z : RegionState) (p : Plain LocalView) → IsBoth z p → length z.store ≡ store_words code
   long_of z (Going q t text k) h = ap (λ (x : RegionState). length x.store) h.2 ∙ h.1
@@ -85,12 +85,12 @@ module _ (code : CodeView) (valid : IsValid code) (o : Opened) (is : IsOpened co
       let next = step_both code o valid z (plain_after code o (store_of words) n) (plain_fits code valid o is (store_of words) n) (both n) in
       subst (IsBoth code o (region_step code z)) (sym (steps_last (region_in code o) n (Going (opening code o 0) (store_of words) [] 0))) next
 
-  pub agree : (n : ℕ) → Shows (region_after code n (region_opening code o words)) (plain_after code o (store_of words) n)
+  pub agree : (n : ℕ) → Shows o (region_after code n (region_opening code o words)) (plain_after code o (store_of words) n)
   agree n = shows code o (region_after code n (region_opening code o words)) (plain_after code o (store_of words) n) (both n)
 
   -- what the plain region comes to, the machine's shows after some words
-  pub comes_shows : (p : Plain LocalView) → Comes (region_in code o) (store_of words) p → (n : ℕ) × Shows (region_after code n (region_opening code o words)) p
-  comes_shows p c = (c.0, subst (Shows (region_after code c.0 (region_opening code o words))) c.1 (agree c.0))
+  pub comes_shows : (p : Plain LocalView) → Comes (region_in code o) (store_of words) p → (n : ℕ) × Shows o (region_after code n (region_opening code o words)) p
+  comes_shows p c = (c.0, subst (Shows o (region_after code c.0 (region_opening code o words))) c.1 (agree c.0))
 
   pub region_long : (n : ℕ) → length (region_after code n (region_opening code o words)).store ≡ store_words code
   region_long n = long_of code o (region_after code n (region_opening code o words)) (plain_after code o (store_of words) n) (both n)

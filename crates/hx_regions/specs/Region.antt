@@ -9,7 +9,8 @@ use Rattle.hx_code.specs.Region.{held, Opened, opening, RegionState}
 use Rattle.hx_speculation.specs.Iteration.{Store, Ask, Goes, Loads, Stores, Prints, TurnEnds, Leaves, Returns, Faults}
 use Rattle.hx_speculation.specs.Region.{Region, Plain, Going, Over, steps}
 use Rattle.hx_frame.specs.Automaton.{ask_in}
-use Rattle.hx_regions.specs.Same.{same_local, same_local_holds, same_local_itself}
+use Rattle.hx_regions.specs.Same.{same_local}
+use Rattle.hx_regions.specs.SameHolds.{same_local_holds, same_local_itself}
 
 -- a store of words, by their addresses
 abbrev pub store_of : List ℤ → Store
@@ -26,17 +27,19 @@ plain_after code o entry n = steps (region_in code o) n (Going (opening code o 0
 
 -- ---- the machine's region shows the same
 
--- it has ended so, or goes on, with this store, this text and so many whole turns
-pub record ShowsAt (z : RegionState) (e : Option Exit) (s : Store) (bytes : List ℕ) (k : ℕ) : Type 0 where
+-- it was opened so, is at iteration k, has ended so, or goes on, with this store, this text and so many whole turns
+pub record ShowsAt (o : Opened) (z : RegionState) (e : Option Exit) (s : Store) (bytes : List ℕ) (k : ℕ) : Type 0 where
+  pub opened : z.opened ≡ o
+  pub iteration : z.iteration ≡ k % 2 ^ 64
   pub exit : z.exit ≡ e
   pub store : store_of z.store ≡ s
   pub text : z.text ≡ bytes
   pub turns : z.turns ≡ held k
 
--- and one that goes on is at the same state of the same iteration
-abbrev pub Shows : RegionState → Plain LocalView → Type 0
-Shows z (Going q s text k) = ShowsAt z None s text k × (z.local ≡ q) × (z.iteration ≡ k % 2 ^ 64)
-Shows z (Over e s text k) = ShowsAt z (Some e) s text k
+-- and one that goes on is at the same state
+abbrev pub Shows : Opened → RegionState → Plain LocalView → Type 0
+Shows o z (Going q s text k) = ShowsAt o z None s text k × (z.local ≡ q)
+Shows o z (Over e s text k) = ShowsAt o z (Some e) s text k
 
 -- ---- what valid code keeps
 

@@ -10,10 +10,11 @@ ghost use Rattle.hx_speculation.specs.Iteration.{Store};
 ghost use Rattle.hx_frame.specs.Automaton.{ask_in};
 ghost use Rattle.hx_regions.specs.Region.{store_of, plain_after, Shows, StandsIn, FitsAsked, FitsPlain};
 
-/// After as many words, the machine's region and the plain one of the theorem are at the same: both go on from the same local state,
-/// or both have ended by the same exit, over the same store and with the same text and whole turns.
+/// After as many words, the machine's region and the plain one of the theorem are at the same: both go on from the same local state
+/// of the same iteration, or both have ended in it by the same exit, over the same store and with the same text and whole turns; and the
+/// region is opened as it was.
 pub fn regions_agree()
-    ensures { (code : CodeView) → IsValid code → (o : Opened) → IsOpened code o → (words : List ℤ) → length words ≡ store_words code → (n : ℕ) → Shows (region_after code n (region_opening code o words)) (plain_after code o (store_of words) n) }
+    ensures { (code : CodeView) → IsValid code → (o : Opened) → IsOpened code o → (words : List ℤ) → length words ≡ store_words code → (n : ℕ) → Shows o (region_after code n (region_opening code o words)) (plain_after code o (store_of words) n) }
 {}
 
 /// Whatever the store, after any number of words the plain region is at a local state that fits the code and stands in its region,

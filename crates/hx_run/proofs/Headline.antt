@@ -16,7 +16,7 @@ use Rattle.hx_run.specs.Sources.{IsSpelledAlone}
 use Rattle.hx_run.specs.declared.refusal.Refusal.{Refusal}
 use Rattle.hx_run.specs.declared.refusal.Refusal.TheVariants as refusal
 use Rattle.hx_run.specs.Refusals.{RefusesSource}
-use Rattle.hx_run.specs.Runs.{EndsSo, PlainlySo, RefusesInput, after}
+use Rattle.hx_run.specs.Runs.{EndsAs, EndsSpeculatively, EndsSo, PlainlySo, RefusesInput, after}
 use Rattle.hx_run.specs.Headline.{IsFinishOf, IsPlainRanOf, IsCodeOf, IsTooLong, RefusesRun}
 
 same_end : (a b : End) → Some a ≡ Some b → a ≡ b
@@ -30,8 +30,13 @@ pub compiled : (source : List ℕ) (p : Program) (code : CodeView) → IsSpelled
 compiled source p code alone accepted behaves =
     record { program = p; is_source = record { spells = alone.spells; accepted = accepted }; behaves = behaves }
 
+-- the machine's own end is one of those
+plainly_so : (code : CodeView) (m : machine.Machine) (f : Finish) → EndsAs code m f → EndsSpeculatively code m f
+plainly_so code m f (ended, counts) = record { ends = ended; regions = ap (λ c. c.regions) counts; turns = ap (λ c. c.turns) counts }
+
 pub is_finish : (source : List ℕ) (input : List ℤ) (code : CodeView) (f : Finish) → IsCodeOf source code → machine.InputFits code input → EndsSo code input f → IsFinishOf source input f
-is_finish source input code f of fits_code (n, (ended, counts)) =
+is_finish source input code f of fits_code (n, so) =
+    let ended = so.ends in
     let fits : meaning.InputFits of.program input = (of.behaves.fits input).1 fits_code in
     let found = of.behaves.ends_only input fits n f.outcome.end ended.end in
     let shows : Shows code (after code input n) found.0 = found.2 in
@@ -44,12 +49,12 @@ is_finish source input code f of fits_code (n, (ended, counts)) =
       fits = fits;
       turns = found.0.turns;
       means = subst (λ r. Means of.program input r) r_is found.1;
-      counted = ap (λ c. c.turns) counts ∙ shows.turns;
+      counted = so.turns ∙ shows.turns;
     }
 
 pub plain_ran : (source : List ℕ) (input : List ℤ) (code : CodeView) (steps : ℕ) (ran : PlainRan) → IsCodeOf source code → machine.InputFits code input
     → PlainlySo code input steps ran → IsPlainRanOf source input steps ran
-plain_ran source input code steps (Ended f) of fits h = is_finish source input code f of fits (steps, h)
+plain_ran source input code steps (Ended f) of fits h = is_finish source input code f of fits (steps, plainly_so code (after code input steps) f h)
 plain_ran source input code steps More of fits h = (code, of, h)
 
 pub is_too_long : (source : List ℕ) (input : List ℤ) (code : CodeView) → IsCodeOf source code → (machine.InputFits code input → ⊥) → IsTooLong source input
@@ -59,6 +64,7 @@ is_too_long source input code of unfit = record { program = of.program; is_sourc
 pub refuses_run : (source : List ℕ) (input : List ℤ) (code : CodeView) (e : Refusal) → IsCodeOf source code → RefusesInput code input e → RefusesRun source input e
 refuses_run source input code refusal.InputTooLong of h = is_too_long source input code of h
 refuses_run source input code refusal.Memory of h = tt
+refuses_run source input code refusal.Pool of h = tt
 refuses_run source input code (refusal.Lex e) of h = absurd h
 refuses_run source input code (refusal.Parse e) of h = absurd h
 refuses_run source input code (refusal.Check e) of h = absurd h
@@ -70,6 +76,7 @@ refuses_run source input code refusal.InputText of h = absurd h
 pub source_refuses_run : (source : List ℕ) (input : List ℤ) (e : Refusal) → RefusesSource source e → RefusesRun source input e
 source_refuses_run source input refusal.InputTooLong h = absurd h
 source_refuses_run source input refusal.Memory h = tt
+source_refuses_run source input refusal.Pool h = tt
 source_refuses_run source input (refusal.Lex e) h = h
 source_refuses_run source input (refusal.Parse e) h = h
 source_refuses_run source input (refusal.Check e) h = h

@@ -1,3 +1,4 @@
 pub mod Sources
 pub mod Runs
 pub mod Headline
+pub mod Behind

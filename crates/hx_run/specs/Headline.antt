@@ -1,6 +1,6 @@
 -- What a finish promises: the source spells an accepted program, and the finish is that of the program on one thread.
 use Rattle.std.specs.Prelude.{◌≡◌, ℕ, ◌≤◌, ◌^◌, ◌-◌, min, ℤ, List, None}
-use Rattle.hx_tree.specs.declared.limits.TheConstants.{TABLE_LIMIT}
+use Rattle.hx_tree.specs.declared.limits.TheConstants.{TABLE_LIMIT, WORKER_LIMIT}
 use Rattle.hx_tree.specs.declared.outcome.Finish.{Finish}
 use Rattle.hx_tree.specs.declared.outcome.Settings.{Settings}
 use Rattle.hx_tree.specs.Tree.{Program}
@@ -31,10 +31,10 @@ pub record IsCodeOf (source : List ℕ) (code : CodeView) : Type 0 where
   pub is_source : IsSourceOf source program
   pub behaves : Behaves program code
 
--- one or two workers, and tables of 1 to 4,096 words
+-- one to eight workers, and tables of 1 to 4,096 words
 pub record AreInRange (s : Settings) : Type 0 where
   pub some_workers : 1 ≤ s.workers
-  pub few_workers : s.workers ≤ 2
+  pub few_workers : s.workers ≤ WORKER_LIMIT
   pub some_marks : 1 ≤ s.marks
   pub few_marks : s.marks ≤ TABLE_LIMIT
   pub some_buffer : 1 ≤ s.buffer
@@ -51,8 +51,9 @@ abbrev pub IsPlainRanOf : List ℕ → List ℤ → ℕ → PlainRan → Type 0
 IsPlainRanOf source input steps (Ended f) = IsFinishOf source input f
 IsPlainRanOf source input steps More = (code : CodeView) × IsCodeOf source code × ((after code input steps).end ≡ None)
 
--- a refusal of a source and its input: memory says nothing, 61 is the input's, and any other is the source's
+-- a refusal of a source and its input: memory (50 and 62) says nothing, 61 is the input's, and any other is the source's
 abbrev pub RefusesRun : List ℕ → List ℤ → Refusal → Type 0
 RefusesRun source input refusal.InputTooLong = IsTooLong source input
 RefusesRun source input refusal.Memory = Unit {0}
+RefusesRun source input refusal.Pool = Unit {0}
 RefusesRun source input e = RefusesSource source e

@@ -13,7 +13,7 @@ use Rattle.hx_word.specs.declared.plain.PlainError.TheVariants as plain
 use Rattle.hx_input.specs.declared.input.InputError.{InputError}
 use Rattle.hx_input.specs.declared.input.InputError.TheVariants as input
 use Rattle.hx_run.specs.declared.refusal.Refusal.{Refusal}
-use Rattle.hx_run.specs.declared.refusal.Refusal.TheVariants.{Lex, Parse, Check, Lower, Settings, InputTooLong, Memory, InputText}
+use Rattle.hx_run.specs.declared.refusal.Refusal.TheVariants.{Lex, Parse, Check, Lower, Pool, Settings, InputTooLong, Memory, InputText}
 use Rattle.hx_input.specs.InputText.{IsInputText}
 use Rattle.hx_run.specs.Sources.{IsSourceOfNone}
 
@@ -22,6 +22,7 @@ number_of (Lex e) = lexer.number_of e
 number_of (Parse e) = parser.number_of e
 number_of (Check e) = checker.number_of e
 number_of (Lower lower.Memory) = 30
+number_of Pool = 50
 number_of Settings = 60
 number_of InputTooLong = 61
 number_of Memory = 62
@@ -32,6 +33,7 @@ pos_of (Lex e) = lexer.pos_of e
 pos_of (Parse e) = parser.pos_of e
 pos_of (Check e) = checker.place_of e
 pos_of (Lower e) = None
+pos_of Pool = None
 pos_of Settings = None
 pos_of InputTooLong = None
 pos_of Memory = None
@@ -42,6 +44,7 @@ is_memory (Lex lex.Memory) = true
 is_memory (Parse parse.Memory) = true
 is_memory (Check check.Memory) = true
 is_memory (Lower lower.Memory) = true
+is_memory Pool = true
 is_memory Memory = true
 is_memory _ = false
 

@@ -2,6 +2,7 @@
 //! contracts of the stages; `specs/Headline.antt` says what a finish promises.
 #![tactic(auto)]
 
+mod passing;
 mod refusal;
 mod running;
 mod source;
@@ -9,6 +10,7 @@ mod source;
 mod tests;
 mod texts;
 
+pub use hx_pool::{Call, Gate, Point, Unwatched};
 pub use refusal::Refusal;
 pub use running::{PlainRan, are_in_range, run, run_plain};
 pub use source::compile;

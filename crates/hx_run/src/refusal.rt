@@ -9,6 +9,7 @@ use hx_input::InputError;
 use hx_lex::LexError;
 use hx_lower::LowerError;
 use hx_parse::ParseError;
+use hx_pool::PoolError;
 use hx_tree::token::Pos;
 use hx_word::plain::PlainError;
 use thiserror::Error;
@@ -28,6 +29,9 @@ pub enum Refusal {
     /// 30: no memory for its code.
     #[error(transparent)]
     Lower(LowerError),
+    /// 50: no memory for a marked loop's board, or for the loop on one thread in its place.
+    #[error("no memory for a marked loop")]
+    Pool,
     /// 60: the settings are out of range.
     #[error("settings out of range")]
     Settings,
@@ -52,6 +56,7 @@ impl Refusal {
             Refusal::Parse(e) => e.number(),
             Refusal::Check(e) => e.number(),
             Refusal::Lower(LowerError::Memory) => 30,
+            Refusal::Pool => 50,
             Refusal::Settings => 60,
             Refusal::InputTooLong => 61,
             Refusal::Memory => 62,
@@ -71,7 +76,7 @@ impl Refusal {
         }
     }
 
-    /// Whether memory was refused: 6, 12, 27, 30 or 62.
+    /// Whether memory was refused: 6, 12, 27, 30, 50 or 62.
     pub fn is_memory(&self) -> bool
         ensures { result ≡ is_memory self.now }
     {
@@ -81,6 +86,7 @@ impl Refusal {
                 | Refusal::Parse(ParseError::Memory)
                 | Refusal::Check(CheckError::Memory)
                 | Refusal::Lower(LowerError::Memory)
+                | Refusal::Pool
                 | Refusal::Memory
         )
     }
@@ -115,6 +121,16 @@ impl From<LowerError> for Refusal {
 
     fn from(e: LowerError) -> Refusal {
         Refusal::Lower(e)
+    }
+}
+
+impl From<PoolError> for Refusal {
+    ghost from_gives = { λ e r. r ≡ refusal.Pool };
+
+    fn from(e: PoolError) -> Refusal {
+        match e {
+            PoolError::Memory(_) => Refusal::Pool,
+        }
     }
 }
 

@@ -5,32 +5,48 @@ ghost use Rattle.hx_code.specs.Machine.{InputFits};
 ghost use Rattle.hx_run.specs.Headline.{AreInRange, IsFinishOf, IsPlainRanOf, RefusesRun};
 ghost use Rattle.hx_run.specs.Runs.{EndsSo, PlainlySo, RefusesInput};
 
+use crate::passing::{add_up, counted, no_counts, pass_region};
 use crate::refusal::Refusal;
 use crate::source::compile;
 use hx_code::code::Code;
-use hx_tree::limits::TABLE_LIMIT;
+use hx_pool::Gate;
+use hx_tree::limits::{TABLE_LIMIT, WORKER_LIMIT};
 use hx_tree::outcome::{Finish, Settings};
-use hx_word::plain::{Plain, Ran};
+use hx_word::plain::{Paused, Plain, Ran};
 use std::alloc::Global;
 use std::sync::Wait;
+use std::thread::Threads;
 
 /// How many words the plain machine runs before it is asked again.
 const STEPS_AT_ONCE: u64 = 1024;
 
-/// The most workers that are served.
-const SERVED_WORKERS: u32 = 2;
-
-// Runs code to its end, the turns of its regions one after another.
-fn run_code(alloc: Global, rt: &impl Wait, code: &Code, input: &[i32]) -> Result<Finish, Refusal>
+// Runs code to its end, its marked loops on threads.
+fn run_code<R: Threads + Wait + Sync, G: Gate>(
+    alloc: Global,
+    rt: &R,
+    code: &Code,
+    input: &[i32],
+    settings: Settings,
+    gate: &G,
+) -> Result<Finish, Refusal>
     ensures ended { IfOk result (EndsSo code.now input.now) }
     ensures fits { OnOk result (InputFits code.now input.now) }
     ensures refused { IfErr result (RefusesInput code.now input.now) }
 {
     let mut plain = Plain::new(alloc, code, input)?;
+    let mut loops = no_counts();
     for _ in rt.forever() {
-        match plain.run(STEPS_AT_ONCE) {
-            Ran::Ended(outcome, counts) => return Ok(Finish { outcome, counts }),
-            Ran::More(more) => plain = more,
+        match plain.to_region(STEPS_AT_ONCE) {
+            Paused::Ended(outcome, counts) => {
+                let counts = counted(counts, loops);
+                return Ok(Finish { outcome, counts });
+            }
+            Paused::More(more) => plain = more,
+            Paused::At(open) => {
+                let (behind, counts) = pass_region(alloc, rt, code, open, settings, gate)?;
+                loops = add_up(loops, counts);
+                plain = behind;
+            }
         }
     }
     unreachable!()
@@ -58,31 +74,33 @@ fn run_code_for(alloc: Global, code: &Code, input: &[i32], steps: u64) -> Result
     }
 }
 
-/// Whether the settings are in range: 1 or 2 workers, and 1 to 4,096 words for read marks and for a write buffer each.
+/// Whether the settings are in range: 1 to 8 workers, and 1 to 4,096 words for read marks and for a write buffer each.
 pub fn are_in_range(settings: Settings) -> bool
     ensures { IsTrue result ↔ AreInRange settings }
 {
     settings.workers >= 1
-        && settings.workers <= SERVED_WORKERS
+        && settings.workers <= WORKER_LIMIT
         && settings.marks >= 1
         && settings.marks <= TABLE_LIMIT
         && settings.buffer >= 1
         && settings.buffer <= TABLE_LIMIT
 }
 
-/// Runs the program of a source on an input, to its end.
+/// Runs the program of a source on an input, to its end, the turns of its marked loops ahead of one another on as many threads as the
+/// settings have workers. The gate is told where each worker stands.
 ///
 /// Where `run` answers a finish, the source spells an accepted program, and the printed text, the final globals, the end or
 /// fault, and the whole turns are those of that program with `pfor` read as `for` and `pwhile` as `while` on one thread. Whether
 /// it answers isn't promised, since the program may run forever. Refusals, in this order: 60 exactly where the settings are out
-/// of range; those of `compile`; 61 where the input doesn't fit the program, which the source then spells. 62 and the other
+/// of range; those of `compile`; 61 where the input doesn't fit the program, which the source then spells. 50, 62 and the other
 /// refusals for want of memory say nothing of the source.
-pub fn run(
+pub fn run<R: Threads + Wait + Sync, G: Gate>(
     alloc: Global,
-    rt: &impl Wait,
+    rt: &R,
     source: &[u8],
     input: &[i32],
     settings: Settings,
+    gate: &G,
 ) -> Result<Finish, Refusal>
     ensures finish { IfOk result (IsFinishOf source.now input.now) }
     ensures settings { IsErrOf result Refusal.Settings ↔ (AreInRange settings → ⊥) }
@@ -92,7 +110,7 @@ pub fn run(
         return Err(Refusal::Settings);
     }
     let code = compile(alloc, source)?;
-    run_code(alloc, rt, &code, input)
+    run_code(alloc, rt, &code, input, settings, gate)
 }
 
 /// Runs the program of a source on an input, for at most so many words of its code on one thread.

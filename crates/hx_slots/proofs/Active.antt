@@ -5,7 +5,7 @@ use Rattle.hx_marks.specs.Table.{look, put}
 use Rattle.hx_buffer.specs.Overlay.{or_else}
 use Rattle.hx_code.specs.Local.{LocalView}
 use Rattle.hx_speculation.specs.Slots.{Slot, is_at, of_worker, found, finds_own, with_mark, written, writes_own, with_write, is_violated, violated, squashed, from_worker, restarted_from, restarted, LoadLost, StoreLost}
-use Rattle.hx_slots.specs.Slots.{place_of, seen_behind, spared, numbered_at}
+use Rattle.hx_slots.specs.Slots.{place_of, seen_behind, before_violated, numbered_at}
 
 -- by a test that takes the first or not
 first_or : {A : Type 0} (P : A → ℕ → Type 0) (t : Bool) (x y : A) (n : ℕ) → (t ≡ true → P x 0) → (t ≡ false → P y (suc n)) → P (if t then x else y) (if t then 0 else suc n)
@@ -55,20 +55,20 @@ module _ (capacity w attempt a : ℕ) where
 
 -- ---- whom a write violates
 
-pub violated_there : (a : ℕ) (u : ℤ) (xs : List (Slot LocalView)) → violated a u xs ≡ drop (spared a u xs) xs
+pub violated_there : (a : ℕ) (u : ℤ) (xs : List (Slot LocalView)) → violated a u xs ≡ drop (before_violated a u xs) xs
 violated_there a u [] = refl
 violated_there a u (x ∷ xs) = first_or (λ l n. l ≡ drop n (x ∷ xs)) (is_violated a u x) _ _ _ (λ _. refl) (λ _. violated_there a (or_else (look x.buffer a) u) xs)
 
-pub squashed_there : (a : ℕ) (u : ℤ) (xs : List (Slot LocalView)) → squashed a u xs ≡ take (spared a u xs) xs ++ map restarted (drop (spared a u xs) xs)
+pub squashed_there : (a : ℕ) (u : ℤ) (xs : List (Slot LocalView)) → squashed a u xs ≡ take (before_violated a u xs) xs ++ map restarted (drop (before_violated a u xs) xs)
 squashed_there a u [] = refl
 squashed_there a u (x ∷ xs) =
     first_or (λ l n. l ≡ take n (x ∷ xs) ++ map restarted (drop n (x ∷ xs))) (is_violated a u x) _ _ _ (λ _. refl)
     (λ _. ap (λ ys. x ∷ ys) (squashed_there a (or_else (look x.buffer a) u) xs))
 
-pub few_spared : (a : ℕ) (u : ℤ) (xs : List (Slot LocalView)) → spared a u xs ≤ length xs
-few_spared a u [] = omega arith
-few_spared a u (x ∷ xs) =
-    first_or {A = Unit {0}} (λ _ n. n ≤ suc (length xs)) (is_violated a u x) tt tt _ (λ _. omega arith) (λ _. omega (arith, few_spared a (or_else (look x.buffer a) u) xs))
+pub few_before_violated : (a : ℕ) (u : ℤ) (xs : List (Slot LocalView)) → before_violated a u xs ≤ length xs
+few_before_violated a u [] = omega arith
+few_before_violated a u (x ∷ xs) =
+    first_or {A = Unit {0}} (λ _ n. n ≤ suc (length xs)) (is_violated a u x) tt tt _ (λ _. omega arith) (λ _. omega (arith, few_before_violated a (or_else (look x.buffer a) u) xs))
 
 -- ---- a worker's iteration
 

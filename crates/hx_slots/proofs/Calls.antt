@@ -7,10 +7,10 @@ use Rattle.hx_code.specs.Local.{LocalView}
 use Rattle.hx_speculation.specs.Slots.{Slot, is_at, found, finds_own, written, writes_own, with_write, violated, squashed, may_restart, restarted, from_worker, restarted_from, LoadLost, Restarts, BufferFull, NumbersEnd, StoreLost}
 use Rattle.hx_speculation.specs.Frame.{is_full}
 use Rattle.hx_slots.specs.Slot.{SlotView, slots_of, found_of, marked_by}
-use Rattle.hx_slots.specs.Slots.{place_of, seen_behind, spared, after_load}
+use Rattle.hx_slots.specs.Slots.{place_of, seen_behind, before_violated, after_load}
 use Rattle.hx_slots.specs.declared.slot.Found.{Found}
 use Rattle.hx_slots.specs.declared.slot.Found.TheVariants.{Known as IsKnown, New as IsNew, Full as IsFull, Lost as IsLost}
-use Rattle.hx_slots.proofs.Active.{found_there, from_there, restarted_there, few_before, few_spared, found_lost, written_lost, mark_there, written_there, write_there, violated_there, squashed_there}
+use Rattle.hx_slots.proofs.Active.{found_there, from_there, restarted_there, few_before, few_before_violated, found_lost, written_lost, mark_there, written_there, write_there, violated_there, squashed_there}
 
 slot_at : (xs : List SlotView) (k : ℕ) (d : SlotView) → k < length xs → get_or (slots_of xs) k d.slot ≡ (get_or xs k d).slot
 slot_at xs k d lt = get_or-map (λ (x : SlotView). x.slot) xs k d d.slot lt
@@ -79,15 +79,15 @@ drop_twice [] k m lt = absurd (omega (arith, lt))
 drop_twice (x ∷ xs) zero m lt = refl
 drop_twice (x ∷ xs) (suc k) m lt = drop_twice xs k m (omega (arith, lt))
 
-module _ (capacity w attempt a : ℕ) (v : ℤ) (xs : List SlotView) (k first : ℕ) (d : SlotView) (at : k ≡ place_of (λ x. is_at x w attempt) (slots_of xs)) (lt : k < length xs) (begins : first ≡ k + 1 + spared a v (slots_of (drop (k + 1) xs))) where
+module _ (capacity w attempt a : ℕ) (v : ℤ) (xs : List SlotView) (k first : ℕ) (d : SlotView) (at : k ≡ place_of (λ x. is_at x w attempt) (slots_of xs)) (lt : k < length xs) (begins : first ≡ k + 1 + before_violated a v (slots_of (drop (k + 1) xs))) where
   abbrev m : ℕ
-  m = spared a v (drop (suc k) (slots_of xs))
+  m = before_violated a v (drop (suc k) (slots_of xs))
 
   rest_is : slots_of (drop (k + 1) xs) ≡ drop (suc k) (slots_of xs)
   rest_is = rw add-one (sym (drop-map (λ (x : SlotView). x.slot) (suc k) xs))
 
   first_is : first ≡ past k m
-  first_is = begins ∙ ap (λ l. k + 1 + spared a v l) rest_is ∙ sym (past_is k m)
+  first_is = begins ∙ ap (λ l. k + 1 + before_violated a v l) rest_is ∙ sym (past_is k m)
 
   inside_too : place_of (λ x. is_at x w attempt) (slots_of xs) < length (slots_of xs)
   inside_too = omega (arith, lt, at, length-map xs (λ (x : SlotView). x.slot))
@@ -137,7 +137,7 @@ module _ (capacity w attempt a : ℕ) (v : ℤ) (xs : List SlotView) (k first : 
       ∙ sym (write_there capacity w attempt a v (slots_of xs) d.slot inside_too)
 
   pub first_fits : first ≤ length xs
-  first_fits = omega (arith, lt, first_is, past_is k m, few_spared a v (drop (suc k) (slots_of xs)), length-drop (suc k) (slots_of xs), length-map xs (λ (x : SlotView). x.slot))
+  first_fits = omega (arith, lt, first_is, past_is k m, few_before_violated a v (drop (suc k) (slots_of xs)), length-drop (suc k) (slots_of xs), length-map xs (λ (x : SlotView). x.slot))
 
 -- ---- beginning again from a worker's iteration on
 

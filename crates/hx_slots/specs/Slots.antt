@@ -31,9 +31,9 @@ seen_behind a u [] = u
 seen_behind a u (x ∷ xs) = seen_behind a (or_else (look x.buffer a) u) xs
 
 -- how many stand before the first that a write violates; u is what the first of all sees there now
-abbrev pub spared : ℕ → ℤ → List (Slot LocalView) → ℕ
-spared a u [] = 0
-spared a u (x ∷ xs) = if is_violated a u x then 0 else suc (spared a (or_else (look x.buffer a) u) xs)
+abbrev pub before_violated : ℕ → ℤ → List (Slot LocalView) → ℕ
+before_violated a u [] = 0
+before_violated a u (x ∷ xs) = if is_violated a u x then 0 else suc (before_violated a (or_else (look x.buffer a) u) xs)
 
 -- the iterations after a load that comes to this
 abbrev pub after_load : ℕ → ℕ → ℕ → Finding → List (Slot LocalView) → List (Slot LocalView)

@@ -3,7 +3,7 @@
 ghost use Rattle.std.specs.Prelude.{◌≡◌, ◌≤◌, ◌<◌, ◌+◌, ◌++◌, ◌==◌, true, drop, take, length, map};
 ghost use Rattle.hx_speculation.specs.Slots.{is_at, may_restart as may_all_restart, restarted};
 ghost use Rattle.hx_slots.specs.Slot.{slots_of, rooms_of};
-ghost use Rattle.hx_slots.specs.Slots.{place_of as place_where, seen_behind, spared};
+ghost use Rattle.hx_slots.specs.Slots.{place_of as place_where, seen_behind, before_violated};
 
 use crate::slot::Slot;
 
@@ -44,7 +44,7 @@ pub(crate) fn seen(active: &[Slot], place: usize, word: u32, committed: i32) -> 
 /// Where the first stands, from a place on, that a write of this value violates; behind all of them, where it violates none.
 pub(crate) fn first_violated(active: &[Slot], from: usize, word: u32, value: i32) -> usize
     requires { from ≤ length active.now }
-    ensures { result ≡ from + spared word value (slots_of (drop from active.now)) }
+    ensures { result ≡ from + before_violated word value (slots_of (drop from active.now)) }
 {
     let mut seen = value;
     let mut place = from;

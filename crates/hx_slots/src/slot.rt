@@ -163,7 +163,7 @@ impl Slot {
     pub(crate) fn is_full(&self, capacity: u32, word: u32) -> bool
         ensures { result ≡ is_full capacity self.now.slot.buffer word }
     {
-        !self.buffer.get(word).is_some() && capacity as usize <= self.buffer.entries().len()
+        !self.buffer.get(word).is_some() && capacity as usize <= self.buffer.len()
     }
 
     /// Writes a word that there is room for.

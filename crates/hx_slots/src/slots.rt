@@ -1,11 +1,11 @@
 // The active iterations of a board.
 
-ghost use Rattle.std.specs.Prelude.{◌≡◌, ◌<◌, ◌+◌, ◌++◌, ◌∷◌, [], ℕ, true, false, drop, length, map, Some, IfOk, slice_get};
+ghost use Rattle.std.specs.Prelude.{◌≡◌, ◌<◌, ◌≤◌, ◌+◌, ◌++◌, ◌∷◌, ◌==◌, [], ℕ, true, false, drop, length, map, Some, IfOk, slice_get};
 ghost use Rattle.hx_code.specs.Local.{LocalView};
 ghost use Rattle.hx_buffer.specs.Overlay.{overlay};
 ghost use Rattle.hx_speculation.specs.Slots.{Slot as SlotOf, found, written, first_attempt, of_worker, may_restart, from_worker, restarted_from};
 ghost use Rattle.hx_slots.specs.Slot.{found_of, rooms_for};
-ghost use Rattle.hx_slots.specs.Slots.{SlotsView, after_load, after_store, written_of, place_of, numbered_at, workers_of, IsFree};
+ghost use Rattle.hx_slots.specs.Slots.{SlotsView, after_load, after_store, written_of, place_of as place_where, numbered_at, workers_of, IsFree, AreWorkers};
 
 use crate::places::{first_violated, may_restart, place_at, place_of, restart, seen};
 use crate::slot::{Found, Slot};
@@ -72,6 +72,15 @@ impl Slots {
         })
     }
 
+    /// What is kept of all iterations: each is of another worker, of so many, and so no more are active than there may be. It does
+    /// nothing.
+    pub fn known(&self)
+        ensures workers { AreWorkers self.now.slots (workers_of self.now.active) }
+        ensures few { length self.now.active ≤ self.now.slots }
+    {
+        let _active = &self.active;
+    }
+
     /// How many are active.
     pub fn len(&self) -> usize
         ensures { result ≡ length self.now.active }
@@ -89,7 +98,8 @@ impl Slots {
 
     /// Where a worker's iteration stands, counted from the head; how many are active, where it has none.
     pub fn place_of(&self, worker: u32) -> usize
-        ensures { (j : ℕ) → of_worker worker j self.now.active ≡ numbered_at j self.now.active result }
+        ensures place { result ≡ place_where (λ x. x.worker == worker) self.now.active }
+        ensures number { (j : ℕ) → of_worker worker j self.now.active ≡ numbered_at j self.now.active result }
     {
         let active = &self.active;
         place_of(active, worker)

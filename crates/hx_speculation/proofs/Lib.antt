@@ -6,3 +6,4 @@ pub mod Frames
 pub mod View
 pub mod Replay
 pub mod Rows
+pub mod CallRows

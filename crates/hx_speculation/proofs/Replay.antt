@@ -6,9 +6,9 @@ use Rattle.hx_speculation.specs.Iteration.{Store, Ask, Goes, Loads, Stores, Prin
 use Rattle.hx_speculation.specs.Region.{has_room_for}
 use Rattle.hx_speculation.specs.Frame.{Frame, Need, Nothing, ForLoad, ForStore, ForHead, Held, IsTrue, stretch, loaded, stored, holds}
 use Rattle.hx_speculation.specs.Slots.{Slot, of_worker}
-use Rattle.hx_speculation.specs.Board.{Board, Token, Start, Load, Write, Head, Alive, Settle, Abandon, Answer, Go, Value, Done, Full, Yours, NotYet, Live, Again, NotThisFrame, Ended, spends as past_numbers, next_iteration, starts, is_of_slot, commits, ends, settles_ask, settles_need, refuses, settles, has_ended, call}
+use Rattle.hx_speculation.specs.Board.{Board, Token, Start, Load, Write, Head, Alive, Settle, Abandon, Answer, Go, Value, Done, Full, Yours, NotYet, Live, Again, NotThisFrame, Ended, spends, next_iteration, starts, is_of_slot, commits, ends, settles_ask, settles_need, refuses, settles, has_ended, call}
 use Rattle.hx_speculation.specs.Sound.{IsSound}
-use Rattle.hx_speculation.specs.Replay.{Running, World, Course, goes_on, stops, spends, after_start, after_load, after_write, after_alive, after_head, after_settle, at_head, at_stop, entry_of, replayed, world_at}
+use Rattle.hx_speculation.specs.Replay.{Running, World, Course, goes_on, stops, spends_token, after_start, after_load, after_write, after_alive, after_head, after_settle, at_head, at_stop, entry_of, replayed, world_at}
 use Rattle.hx_speculation.proofs.Stores.{if_cases}
 use Rattle.hx_speculation.proofs.Calls.{call_sound, opened_sound}
 use Rattle.hx_speculation.proofs.Frames.{begins_true, stretch_true, loaded_true, stored_true, holds_true}
@@ -23,7 +23,7 @@ module _ {σ : Type 0} (c : Course σ) where
   start_gives : (w : ℕ) (b : Board σ) (p : Option (ℕ × Slot σ)) → GivesTrue (starts c.region w b p)
   start_gives w b (Some p) = begins_true c.region.ask _ _ _ _
   start_gives w b None =
-      if_cases {A = Answer σ × Board σ} GivesTrue (nat_lt (next_iteration b) (2 ^ 64)) _ (past_numbers b) (λ _. begins_true c.region.ask _ _ _ _) (λ _. tt)
+      if_cases {A = Answer σ × Board σ} GivesTrue (nat_lt (next_iteration b) (2 ^ 64)) _ (spends b) (λ _. begins_true c.region.ask _ _ _ _) (λ _. tt)
 
   ask_gives : (b : Board σ) (t : Token) (f : Frame σ) (x : Slot σ) (later : List (Slot σ)) (ask : Ask σ) → GivesTrue (settles_ask c.region b t f x later ask)
   ask_gives b t f x later (Goes q) = begins_true c.region.ask _ _ _ _
@@ -32,7 +32,7 @@ module _ {σ : Type 0} (c : Course σ) where
   ask_gives b t f x later (Prints bytes q full) =
       if_cases {A = Answer σ × Board σ} GivesTrue (has_room_for c.region b.text bytes) (commits b t x later q (b.text ++ bytes)) (ends b x later (Faulted full)) (λ _. begins_true c.region.ask _ _ _ _) (λ _. tt)
   ask_gives b t f x later TurnEnds =
-      if_cases {A = Answer σ × Board σ} GivesTrue (nat_lt (b.head + 1) (2 ^ 64)) _ (past_numbers (record b { is_out = false })) (λ _. tt) (λ _. tt)
+      if_cases {A = Answer σ × Board σ} GivesTrue (nat_lt (b.head + 1) (2 ^ 64)) _ (spends (record b { is_out = false })) (λ _. tt) (λ _. tt)
   ask_gives b t f x later Leaves = tt
   ask_gives b t f x later (Returns v) = tt
   ask_gives b t f x later (Faults fault) = tt
@@ -71,14 +71,14 @@ module _ {σ : Type 0} (c : Course σ) where
     stops_true : (w : ℕ) (d : World σ) (b : Board σ) → IsTrueWorld entry d → IsSound c.region entry b → IsTrueWorld entry (stops w d b)
     stops_true w d b h s = record { board = s; frames = λ v. if_cases RunsTrue (v == w) None (d.running v) (λ _. tt) (λ _. h.frames v) }
 
-    spends_sound : (w : ℕ) (f : Frame σ) (token : Option Token) (b : Board σ) → IsTrue c.region.ask f → IsSound c.region entry b → IsSound c.region entry (spends c w f token b)
-    spends_sound w f None b t s = s
-    spends_sound w f (Some k) b t s =
+    spends_token_sound : (w : ℕ) (f : Frame σ) (token : Option Token) (b : Board σ) → IsTrue c.region.ask f → IsSound c.region entry b → IsSound c.region entry (spends_token c w f token b)
+    spends_token_sound w f None b t s = s
+    spends_token_sound w f (Some k) b t s =
         call_sound c.region entry c.capacities (Settle k f true) _ (λ _. t.tracked) (call_sound c.region entry c.capacities (Abandon w) b tt s)
 
     module _ (w : ℕ) (d : World σ) (h : IsTrueWorld entry d) where
-      lost : (f : Frame σ) (token : Option Token) (b : Board σ) → IsTrue c.region.ask f → IsSound c.region entry b → IsTrueWorld entry (stops w d (spends c w f token b))
-      lost f token b t s = stops_true w d _ h (spends_sound w f token b t s)
+      lost : (f : Frame σ) (token : Option Token) (b : Board σ) → IsTrue c.region.ask f → IsSound c.region entry b → IsTrueWorld entry (stops w d (spends_token c w f token b))
+      lost f token b t s = stops_true w d _ h (spends_token_sound w f token b t s)
 
       start_kept : (p : Answer σ × Board σ) → GivesTrue p → IsSound c.region entry p.1 → IsTrueWorld entry (after_start w d p.0 p.1)
       start_kept (Go f, b) g s = goes_on_true w d f None b h s g

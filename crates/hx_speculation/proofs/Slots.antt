@@ -54,15 +54,15 @@ restart_seen s (x ∷ xs) = (agrees_nil s, restart_seen (overlay [] s) xs)
 -- ---- store
 
 -- the violation rule is used here alone: where it spares an iteration, its mark of `a` is what it sees after the write
-spared_at : {σ : Type 0} (a b : ℕ) (w : ℤ) (s u : Store) (x : Slot σ) → is_violated a (u a) x ≡ false → ((c : ℕ) → c ≢ a → s c ≡ u c) → Agrees s x.marks → (b ≡ a) ⊎ (b ≢ a) → look x.marks b ≡ Some w → u b ≡ w
-spared_at a b w s u x k d h (inl e) g =
+unviolated_agrees_at : {σ : Type 0} (a b : ℕ) (w : ℤ) (s u : Store) (x : Slot σ) → is_violated a (u a) x ≡ false → ((c : ℕ) → c ≢ a → s c ≡ u c) → Agrees s x.marks → (b ≡ a) ⊎ (b ≢ a) → look x.marks b ≡ Some w → u b ≡ w
+unviolated_agrees_at a b w s u x k d h (inl e) g =
     let there : look x.marks a ≡ Some w = ap (look x.marks) (sym e) ∙ g in
     let yes : is_some (look x.marks a) ≡ true = ap is_some there in
     absurd (false≢true (sym k ∙ yes))
-spared_at a b w s u x k d h (inr n) g = sym (d b n) ∙ h b w g
+unviolated_agrees_at a b w s u x k d h (inr n) g = sym (d b n) ∙ h b w g
 
-spared : {σ : Type 0} (a : ℕ) (s u : Store) (x : Slot σ) → is_violated a (u a) x ≡ false → ((b : ℕ) → b ≢ a → s b ≡ u b) → Agrees s x.marks → Agrees u x.marks
-spared a s u x k d h b w g = spared_at a b w s u x k d h (same_or_not b a) g
+unviolated_agrees : {σ : Type 0} (a : ℕ) (s u : Store) (x : Slot σ) → is_violated a (u a) x ≡ false → ((b : ℕ) → b ≢ a → s b ≡ u b) → Agrees s x.marks → Agrees u x.marks
+unviolated_agrees a s u x k d h b w g = unviolated_agrees_at a b w s u x k d h (same_or_not b a) g
 
 squash_starts : {σ : Type 0} (a : ℕ) (u : ℤ) (xs : List (Slot σ)) → starts_of (squashed a u xs) ≡ starts_of xs
 squash_starts a u [] = refl
@@ -77,7 +77,7 @@ squash_seen a s u [] d h = tt
 squash_seen a s u (x ∷ xs) d h =
     if_cases (λ l. MarksAreSeen u l) (is_violated a (u a) x) (map restarted (x ∷ xs)) (x ∷ squashed a (overlay x.buffer u a) xs)
     (λ _. restart_seen u (x ∷ xs))
-    (λ k. (spared a s u x k d h.0, squash_seen a (overlay x.buffer s) (overlay x.buffer u) xs (overlay_but x.buffer s u a d) h.1))
+    (λ k. (unviolated_agrees a s u x k d h.0, squash_seen a (overlay x.buffer s) (overlay x.buffer u) xs (overlay_but x.buffer s u a d) h.1))
 
 own_write_kept : {σ : Type 0} (a : ℕ) (v : ℤ) (s : Store) (x : Slot σ) (xs : List (Slot σ)) → MarksAreSeen s (x ∷ xs) → Keeps s (x ∷ xs) (record x { buffer = put x.buffer a v } ∷ squashed a v xs)
 own_write_kept a v s x xs h =

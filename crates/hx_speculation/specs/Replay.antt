@@ -33,10 +33,10 @@ stops w d b = record { board = b; running = with_running d.running w None }
 abbrev pub board_after : {σ : Type 0} → Answer σ × Board σ → Board σ
 board_after p = p.1
 
--- a token in hand is spent
-abbrev pub spends : {σ : Type 0} → Course σ → ℕ → Frame σ → Option Token → Board σ → Board σ
-spends c w f None b = b
-spends c w f (Some t) b =
+-- a token in hand is spent: its worker gives its iteration up, and settles with it
+abbrev pub spends_token : {σ : Type 0} → Course σ → ℕ → Frame σ → Option Token → Board σ → Board σ
+spends_token c w f None b = b
+spends_token c w f (Some t) b =
     board_after (call c.region c.capacities (Settle t f true) (board_after (call c.region c.capacities (Abandon w) b)))
 
 abbrev pub after_start : {σ : Type 0} → ℕ → World σ → Answer σ → Board σ → World σ
@@ -46,16 +46,16 @@ after_start w d _ b = stops w d b
 abbrev pub after_load : {σ : Type 0} → Course σ → ℕ → World σ → Frame σ → Option Token → Answer σ → Board σ → World σ
 after_load c w d f token (Value v) b = goes_on w d (loaded c.region.ask c.capacities.marks v f) token b
 after_load c w d f token Full b = goes_on w d (holds f) token b
-after_load c w d f token _ b = stops w d (spends c w f token b)
+after_load c w d f token _ b = stops w d (spends_token c w f token b)
 
 abbrev pub after_write : {σ : Type 0} → Course σ → ℕ → World σ → Frame σ → Option Token → Answer σ → Board σ → World σ
 after_write c w d f token Done b = goes_on w d (stored c.region.ask c.capacities.buffer f) token b
 after_write c w d f token Full b = goes_on w d (holds f) token b
-after_write c w d f token _ b = stops w d (spends c w f token b)
+after_write c w d f token _ b = stops w d (spends_token c w f token b)
 
 abbrev pub after_alive : {σ : Type 0} → Course σ → ℕ → World σ → Frame σ → Option Token → Answer σ → Board σ → World σ
 after_alive c w d f token Live b = goes_on w d f token b
-after_alive c w d f token _ b = stops w d (spends c w f token b)
+after_alive c w d f token _ b = stops w d (spends_token c w f token b)
 
 abbrev pub after_head : {σ : Type 0} → ℕ → World σ → Frame σ → Answer σ → Board σ → World σ
 after_head w d f (Yours t) b = goes_on w d f (Some t) b

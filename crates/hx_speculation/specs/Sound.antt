@@ -1,6 +1,7 @@
 -- What a board keeps through every call.
 use Rattle.std.specs.Prelude.{◌≡◌, ℕ, suc, List, [], ◌∷◌, map, Option, Some, None, true}
 use Rattle.hx_code.specs.declared.word.Exit.{Exit}
+use Rattle.hx_code.specs.Region.{held}
 use Rattle.hx_speculation.specs.Iteration.{Store, overlay, Agrees}
 use Rattle.hx_speculation.specs.Region.{Region, Plain, Going, Over, Comes}
 use Rattle.hx_speculation.specs.Frame.{IsTracked}
@@ -35,10 +36,13 @@ abbrev pub shown : {σ : Type 0} → Region σ → Board σ → Option Exit → 
 shown r b None = Going (head_start r b.head (starts_of b.active)) b.store b.text b.head
 shown r b (Some e) = Over e b.store b.text b.head
 
+-- it shows where the plain region comes to; its own region is counted, and as many whole turns as the head's number says
 pub record IsSound {σ : Type 0} (r : Region σ) (entry : Store) (b : Board σ) : Type 0 where
   pub prefix : Comes r entry (shown r b b.exit)
   pub marks : MarksAreSeen b.store b.active
   pub rest : RestIsOpening r b.head (starts_of b.active)
+  pub turns : b.counts.turns ≡ held b.head
+  pub regions : b.counts.regions ≡ 1
 
 -- a frame of the board's own code that is handed in is tracked
 abbrev pub HasTrackedFrame : {σ : Type 0} → Region σ → Call σ → Type 0

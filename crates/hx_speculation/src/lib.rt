@@ -1,5 +1,5 @@
 //! Why speculation gives the answer of one thread: what a board does with the iterations of a region, by definition, and the proof
-//! that whatever it shows is a state of the plain region. It holds of every iteration that asks for one thing at a time.
+//! that whatever it shows is a state of the plain region. The proofs hold of every iteration that asks for one thing at a time.
 #![tactic(auto)]
 
 pub mod laws;

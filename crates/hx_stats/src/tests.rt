@@ -1,8 +1,10 @@
 // Reports as they are printed.
 
+use crate::globals::put_globals;
 use crate::text::report;
 use hx_tree::outcome::{Counts, End, Fault, FaultKind, Finish, Outcome};
 use hx_tree::token::Pos;
+use hx_tree::tree::{Func, GlobalDecl, Item, Name, Params, Program, Returns, Shape};
 use std::alloc::{AllocError, Global};
 use std::test::Fail;
 
@@ -45,6 +47,50 @@ fn tells_a_fault_and_its_place(rt: HostRuntime) -> Result<(), Fail> {
     assert_eq!(rt;
         text.as_slice(),
         b"end fault 2 at 1:46\nregions 1\nturns 4\nrepeats 0\nviolations 0\nrestarts 0\nholds 0\nabandons 0\ndiscarded 0\n".as_slice()
+    );
+    Ok(())
+}
+
+fn name(alloc: Global, text: &[u8]) -> Result<Name, AllocError> {
+    let text = Vec::from_slice(alloc, text)?;
+    let pos = Pos { line: 1, col: 1 };
+    Ok(Name { text, pos })
+}
+
+fn declared(alloc: Global, text: &[u8], shape: Shape) -> Result<GlobalDecl, AllocError> {
+    let name = name(alloc, text)?;
+    Ok(GlobalDecl { name, shape })
+}
+
+fn main_function(alloc: Global) -> Result<Item, AllocError> {
+    Ok(Item::Function(Func {
+        returns: Returns::Int,
+        name: name(alloc, b"main")?,
+        params: Params::Nothing,
+        body: Vec::new(alloc),
+    }))
+}
+
+// int a[3], b; int main(){} int c[1];
+fn three_globals(alloc: Global) -> Result<Program, AllocError> {
+    let a = declared(alloc, b"a", Shape::Array(3, Vec::new(alloc)))?;
+    let b = declared(alloc, b"b", Shape::Int(None))?;
+    let c = declared(alloc, b"c", Shape::Array(1, Vec::new(alloc)))?;
+    let first = Item::Globals(Vec::from_array(alloc, [a, b])?);
+    let last = Item::Globals(Vec::from_array(alloc, [c])?);
+    let main = main_function(alloc)?;
+    let items = Vec::from_array(alloc, [first, main, last])?;
+    Ok(Program { items })
+}
+
+#[test]
+fn tells_the_globals(rt: HostRuntime) -> Result<(), Fail> {
+    let program = three_globals(rt.alloc())?;
+    let mut text = Vec::from_slice(rt.alloc(), b"5\n")?;
+    put_globals(&mut text, &program, &[1, -2, 3, 40, -2147483648])?;
+    assert_eq!(&rt;
+        text.as_slice(),
+        b"5\na 1 -2 3\nb 40\nc -2147483648\n".as_slice()
     );
     Ok(())
 }

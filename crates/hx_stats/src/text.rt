@@ -68,7 +68,8 @@ fn put_count(text: &mut Vec<u8>, word: &[u8], n: u64) -> Result<(), AllocError>
     text.extend_from_slice(b"\n")
 }
 
-fn put_number<I: Integer>(text: &mut Vec<u8>, n: I) -> Result<(), AllocError>
+// A number in decimal.
+pub(crate) fn put_number<I: Integer>(text: &mut Vec<u8>, n: I) -> Result<(), AllocError>
     ensures { OnOk result (text.new.items ≡ text.old.items ++ I.text n) }
 {
     let mut buffer = Buffer::new();

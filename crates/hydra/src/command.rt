@@ -11,10 +11,12 @@ use hx_answer::{
     tell_refusal, tell_write_failed,
 };
 use hx_run::parse_input;
+use hx_tree::outcome::Settings;
 use std::convert::AsStr;
 use std::io::Write;
 use std::rt::Files;
 use std::sync::Wait;
+use std::thread::Threads;
 
 // The numbers of the input file, or none where none is named.
 fn input_of<R: Files + AllocGlobal, E: Write>(
@@ -44,15 +46,15 @@ fn inputs_of<R: Files + AllocGlobal, E: Write>(
     }
 }
 
-fn run_file<R: Files + AllocGlobal + Wait, W: Write, E: Write>(
+fn run_file<R: Files + AllocGlobal + Threads + Wait + Sync, W: Write, E: Write>(
     rt: &R,
     paths: &Paths<'_>,
-    workers: u32,
+    settings: Settings,
     out: &mut W,
     err: &mut E,
 ) -> Status {
     match inputs_of(rt, paths, err) {
-        Ok((input, source)) => answer_run(rt.alloc(), rt, &source, &input, workers, out, err),
+        Ok((input, source)) => answer_run(rt.alloc(), rt, &source, &input, settings, out, err),
         Err(status) => status,
     }
 }
@@ -117,7 +119,7 @@ fn tell_command_line<W: Write, E: Write>(error: &Error, out: &mut W, err: &mut E
 ///
 /// Printed text, listings and help go to `out`. A fault or a refusal is told on `err` in one line, with its number and,
 /// where it has one, its place.
-pub(crate) fn command<R: Files + AllocGlobal + Wait, S: AsStr, W: Write, E: Write>(
+pub(crate) fn command<R: Files + AllocGlobal + Threads + Wait + Sync, S: AsStr, W: Write, E: Write>(
     rt: &R,
     words: &[S],
     out: &mut W,
@@ -126,7 +128,7 @@ pub(crate) fn command<R: Files + AllocGlobal + Wait, S: AsStr, W: Write, E: Writ
     ensures { result ≤ 4 }
 {
     let status = match read_words(rt.alloc(), words) {
-        Ok(Some(Request::Run(paths, workers))) => run_file(rt, &paths, workers, out, err),
+        Ok(Some(Request::Run(paths, settings))) => run_file(rt, &paths, settings, out, err),
         Ok(Some(Request::Plain(paths, steps))) => plain_file(rt, &paths, steps, out, err),
         Ok(Some(Request::Check(path))) => check_file(rt, path, out, err),
         Ok(Some(Request::Words(path))) => list_file(rt, path, out, err),

@@ -1,6 +1,7 @@
 // What a command line asks for.
 
 use clap::{Arg, ArgAction, ArgMatches, Command, Error, value_parser};
+use hx_tree::outcome::Settings;
 use std::alloc::{AllocError, Global};
 use std::convert::AsStr;
 
@@ -14,8 +15,8 @@ pub struct Paths<'a> {
 /// What is asked for.
 #[derive(Clone, Copy, Debug)]
 pub enum Request<'a> {
-    /// A run with so many workers.
-    Run(Paths<'a>, u32),
+    /// A run with such workers and tables.
+    Run(Paths<'a>, Settings),
     /// A run on one thread, of at most so many words.
     Plain(Paths<'a>, u64),
     /// Whether a source is accepted.
@@ -24,7 +25,11 @@ pub enum Request<'a> {
     Words(&'a str),
 }
 
-const DEFAULT_WORKERS: u32 = 2;
+const DEFAULT_SETTINGS: Settings = Settings {
+    workers: 4,
+    marks: 512,
+    buffer: 64,
+};
 
 const DEFAULT_STEPS: u64 = 1_000_000_000;
 
@@ -68,12 +73,26 @@ fn run_command<'a>(alloc: Global) -> Result<Command<'a>, AllocError> {
     let workers = number_option(
         alloc,
         "workers",
-        "2",
-        "Workers for the marked loops, 1 or 2; their turns go one after another today",
+        "4",
+        "Workers for the marked loops, 1 to 8; each but the first is a thread",
+    );
+    let marks = number_option(
+        alloc,
+        "marks",
+        "512",
+        "How many words a turn may have read before it waits for those ahead of it, 1 to 4096",
+    );
+    let buffer = number_option(
+        alloc,
+        "buffer",
+        "64",
+        "How many words a turn may have written before it waits for those ahead of it, 1 to 4096",
     );
     let run = command_on_file(alloc, "run", "Runs a program and prints what it prints");
     let run = with_argument(run, input_option(alloc));
-    with_argument(run, workers.value_parser(value_parser!(u32)))
+    let run = with_argument(run, workers.value_parser(value_parser!(u32)));
+    let run = with_argument(run, marks.value_parser(value_parser!(u32)));
+    with_argument(run, buffer.value_parser(value_parser!(u32)))
 }
 
 fn plain_command<'a>(alloc: Global) -> Result<Command<'a>, AllocError> {
@@ -127,14 +146,22 @@ fn paths_of<'a>(matches: &ArgMatches<'a>) -> Paths<'a> {
     }
 }
 
+fn settings_of(matches: &ArgMatches<'_>) -> Settings {
+    let number = |name: &str, default: u32| matches.get_one::<u32>(name).unwrap_or(default);
+    Settings {
+        workers: number("workers", DEFAULT_SETTINGS.workers),
+        marks: number("marks", DEFAULT_SETTINGS.marks),
+        buffer: number("buffer", DEFAULT_SETTINGS.buffer),
+    }
+}
+
 fn source_of<'a>(matches: &ArgMatches<'a>) -> &'a str {
     matches.get_str("FILE").unwrap_or("")
 }
 
 fn request_of<'a>(name: &str, inner: &ArgMatches<'a>) -> Option<Request<'a>> {
     if name == "run" {
-        let workers = inner.get_one::<u32>("workers").unwrap_or(DEFAULT_WORKERS);
-        Some(Request::Run(paths_of(inner), workers))
+        Some(Request::Run(paths_of(inner), settings_of(inner)))
     } else if name == "plain" {
         let steps = inner.get_one::<u64>("steps").unwrap_or(DEFAULT_STEPS);
         Some(Request::Plain(paths_of(inner), steps))

@@ -6,6 +6,7 @@ use std::process::Abort;
 use std::rt::Files;
 use std::sync::Wait;
 use std::test::Fail;
+use std::thread::Threads;
 use std::{fs, io};
 
 // What a command wrote, and its status.
@@ -16,7 +17,7 @@ struct Shown {
     status: u8,
 }
 
-fn done_by<R: Files + AllocGlobal + Wait>(rt: &R, words: &[&str]) -> Shown {
+fn done_by<R: Files + AllocGlobal + Threads + Wait + Sync>(rt: &R, words: &[&str]) -> Shown {
     let mut out = Vec::new(rt.alloc());
     let mut err = Vec::new(rt.alloc());
     let status = command(rt, words, &mut out, &mut err);
@@ -24,7 +25,7 @@ fn done_by<R: Files + AllocGlobal + Wait>(rt: &R, words: &[&str]) -> Shown {
 }
 
 // A command on a file that has this source for as long as the command runs.
-fn on_source<R: Files + AllocGlobal + Wait>(
+fn on_source<R: Files + AllocGlobal + Threads + Wait + Sync>(
     rt: &R,
     path: &str,
     source: &[u8],
@@ -43,7 +44,7 @@ fn expect(rt: &impl Abort, found: &Shown, out: &[u8], err: &[u8], status: u8) {
 }
 
 // That a command on a file of this source writes this and ends with this status.
-fn shows<R: Abort + Files + AllocGlobal + Wait>(
+fn shows<R: Abort + Files + AllocGlobal + Threads + Wait + Sync>(
     rt: &R,
     path: &str,
     source: &[u8],

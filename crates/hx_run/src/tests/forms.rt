@@ -12,11 +12,12 @@ mod marked;
 mod outside;
 mod returns;
 
-use crate::{PlainRan, parse_input, run, run_plain};
+use crate::{PlainRan, Unwatched, parse_input, run, run_plain};
 use hx_tree::outcome::{End, Finish, Settings};
 use std::alloc::Global;
 use std::process::Abort;
 use std::sync::Wait;
+use std::thread::Threads;
 
 const STEPS: u64 = 100_000_000;
 
@@ -46,12 +47,7 @@ fn is_of(rt: &impl Abort, program: Program<'_>, finish: &Finish) {
     }
 }
 
-fn holds<R: Abort + Wait>(rt: &R, alloc: Global, program: Program<'_>) {
-    let settings = Settings {
-        workers: 2,
-        marks: 512,
-        buffer: 64,
-    };
+fn holds<R: Abort + Threads + Wait + Sync>(rt: &R, alloc: Global, program: Program<'_>) {
     let name = program.name;
     match parse_input(alloc, program.input) {
         Ok(input) => {
@@ -59,16 +55,37 @@ fn holds<R: Abort + Wait>(rt: &R, alloc: Global, program: Program<'_>) {
                 Ok(PlainRan::Ended(finish)) => is_of(rt, program, &finish),
                 _ => assert!(rt; false, "{name} by run_plain"),
             }
-            match run(alloc, rt, program.source, input.as_slice(), settings) {
-                Ok(finish) => is_of(rt, program, &finish),
-                Err(_) => assert!(rt; false, "{name} by run"),
+            for workers in [1, 2, 4, 8] {
+                for room in [64, 1] {
+                    holds_by(rt, alloc, program, input.as_slice(), workers, room);
+                }
             }
         }
         Err(_) => assert!(rt; false, "the input of {name}"),
     }
 }
 
-fn all_hold<R: Abort + Wait>(rt: &R, alloc: Global, programs: &[Program<'_>]) {
+fn holds_by<R: Abort + Threads + Wait + Sync>(
+    rt: &R,
+    alloc: Global,
+    program: Program<'_>,
+    input: &[i32],
+    workers: u32,
+    room: u32,
+) {
+    let settings = Settings {
+        workers,
+        marks: room,
+        buffer: room,
+    };
+    let name = program.name;
+    match run(alloc, rt, program.source, input, settings, &Unwatched) {
+        Ok(finish) => is_of(rt, program, &finish),
+        Err(_) => assert!(rt; false, "{name} by {workers} workers with room for {room}"),
+    }
+}
+
+fn all_hold<R: Abort + Threads + Wait + Sync>(rt: &R, alloc: Global, programs: &[Program<'_>]) {
     for program in programs {
         holds(rt, alloc, *program);
     }

@@ -1,12 +1,13 @@
 // Worked programs and refusals, by the whole path.
 
-use crate::{PlainRan, Refusal, are_in_range, compile, run, run_plain};
+use crate::{PlainRan, Refusal, Unwatched, are_in_range, compile, run, run_plain};
 use hx_tree::outcome::{End, Finish, Settings};
 use hx_tree::token::Pos;
 use std::alloc::Global;
 use std::process::Abort;
 use std::sync::Wait;
 use std::test::Fail;
+use std::thread::Threads;
 
 const TWO_WORKERS: Settings = Settings {
     workers: 2,
@@ -14,7 +15,7 @@ const TWO_WORKERS: Settings = Settings {
     buffer: 64,
 };
 
-fn runs_to<R: Abort + Wait>(
+fn runs_to<R: Abort + Threads + Wait + Sync>(
     rt: &R,
     alloc: Global,
     source: &[u8],
@@ -22,7 +23,7 @@ fn runs_to<R: Abort + Wait>(
     globals: &[i32],
     turns: u64,
 ) {
-    match run(alloc, rt, source, &[], TWO_WORKERS) {
+    match run(alloc, rt, source, &[], TWO_WORKERS, &Unwatched) {
         Ok(finish) => {
             assert_eq!(rt; finish.outcome.text.as_slice(), text);
             assert_eq!(rt; finish.outcome.globals.as_slice(), globals);
@@ -125,9 +126,14 @@ fn refuses_sources(rt: HostRuntime) -> Result<(), Fail> {
     Ok(())
 }
 
-fn refuses_run<R: Abort + Wait>(rt: &R, alloc: Global, settings: Settings, number: u32) {
+fn refuses_run<R: Abort + Threads + Wait + Sync>(
+    rt: &R,
+    alloc: Global,
+    settings: Settings,
+    number: u32,
+) {
     let source = b"int c; int main(){ pwhile(c<3){ print(c); c=c+1; } }".as_slice();
-    match run(alloc, rt, source, &[7], settings) {
+    match run(alloc, rt, source, &[7], settings, &Unwatched) {
         Ok(_) => assert!(rt; false),
         Err(refusal) => assert_eq!(rt; refusal.number(), number),
     }
@@ -142,11 +148,11 @@ fn refuses_settings_before_input(rt: HostRuntime) {
         ..TWO_WORKERS
     };
     refuses_run(&rt, alloc, none, 60);
-    let three = Settings {
-        workers: 3,
+    let nine = Settings {
+        workers: 9,
         ..TWO_WORKERS
     };
-    refuses_run(&rt, alloc, three, 60);
+    refuses_run(&rt, alloc, nine, 60);
     let no_marks = Settings {
         marks: 0,
         ..TWO_WORKERS

@@ -19,6 +19,19 @@ fn marks_so(rt: &impl Abort, marks: &mut Marks, word: u32, value: i32, wanted: R
     assert_eq!(rt; marks.mark(word, value), wanted);
 }
 
+// These and no others, in this order.
+fn marks_are(rt: &impl Abort, marks: &Marks, wanted: &[Entry]) {
+    assert_eq!(rt; marks.len(), wanted.len());
+    for place in 0..marks.len() {
+        assert_eq!(rt; Some(marks.at(place)), wanted.get(place).copied());
+    }
+}
+
+fn writes_one(rt: &impl Abort, buffer: &WriteBuffer, wanted: Entry) {
+    assert_eq!(rt; buffer.len(), 1);
+    assert_eq!(rt; buffer.at(0), wanted);
+}
+
 #[test]
 fn two_words_are_laid_over_a_store(rt: HostRuntime) -> Result<(), Fail> {
     let mut buffer = WriteBuffer::with_capacity(rt.alloc(), 2)?;
@@ -33,7 +46,7 @@ fn two_words_are_laid_over_a_store(rt: HostRuntime) -> Result<(), Fail> {
     let mut store = [10, 11, 12, 13];
     buffer.drain_into(&mut store);
     assert_eq!(rt; store, [-1, 11, 12, 5]);
-    assert_eq!(rt; buffer.entries().len(), 0);
+    assert_eq!(rt; buffer.len(), 0);
     puts(&rt, &mut buffer, 2, 8, Ok(()));
     Ok(())
 }
@@ -42,7 +55,7 @@ fn two_words_are_laid_over_a_store(rt: HostRuntime) -> Result<(), Fail> {
 fn what_is_cleared_is_not_written(rt: HostRuntime) -> Result<(), Fail> {
     let mut buffer = WriteBuffer::with_capacity(rt.alloc(), 1)?;
     puts(&rt, &mut buffer, 1, 7, Ok(()));
-    assert_eq!(rt; buffer.entries(), [Entry { word: 1, value: 7 }].as_slice());
+    writes_one(&rt, &buffer, Entry { word: 1, value: 7 });
     buffer.clear();
     let mut store = [10, 11];
     buffer.drain_into(&mut store);
@@ -58,7 +71,7 @@ fn words_beyond_the_store_are_dropped(rt: HostRuntime) -> Result<(), Fail> {
     let mut store = [10, 11];
     buffer.drain_into(&mut store);
     assert_eq!(rt; store, [10, 8]);
-    assert_eq!(rt; buffer.entries().len(), 0);
+    assert_eq!(rt; buffer.len(), 0);
     Ok(())
 }
 
@@ -78,7 +91,7 @@ fn two_words_fill_marks_of_two(rt: HostRuntime) -> Result<(), Fail> {
         [marks.get(4), marks.get(5), marks.get(7)],
         [Some(-2), None, Some(3)]
     );
-    assert_eq!(rt; marks.entries(), [FOUR, SEVEN].as_slice());
+    marks_are(&rt, &marks, &[FOUR, SEVEN]);
     Ok(())
 }
 
@@ -89,7 +102,7 @@ fn emptied_marks_have_their_room_again(rt: HostRuntime) -> Result<(), Fail> {
     marks.clear();
     assert_eq!(rt; marks.get(7), None);
     marks_so(&rt, &mut marks, 4, -2, Ok(()));
-    assert_eq!(rt; marks.entries(), [FOUR].as_slice());
+    marks_are(&rt, &marks, &[FOUR]);
     Ok(())
 }
 

@@ -11,12 +11,12 @@ use Rattle.hx_board.proofs.board.Board.abandon.Goals as goal
 pub returns-then-place_of-len : goal.returns-then-place_of-len
 returns-then-place_of-len c =
     let over : is_over (view_of c.self.inside) ≡ false = ap is_over c.self.view_is ∙ sym c.is_over.ensures ∙ c.if-is_over.false in
-    subst (λ (v : BoardView). Becomes v (Abandon c.args.worker) v) c.self.view_is (abandon_free (view_of c.self.inside) c.args.worker c.place_of.result over c.place_of.ensures (omega (arith, c.len.ensures, c.if-place_of-len.true)))
+    subst (λ (v : BoardView). Becomes v (Abandon c.args.worker) v) c.self.view_is (abandon_free (view_of c.self.inside) c.args.worker c.place_of.result over c.place_of.ensures.number (omega (arith, c.len.ensures, c.if-place_of-len.true)))
 
 does : (c : goal.After-self-1) → Becomes (view_of c.self.inside) (Abandon c.args.worker) (record (view_of c.self.inside) { active = Rattle.hx_speculation.specs.Slots.restarted_from c.args.worker c.self.inside.slots.active; counts = record c.self.inside.counts { abandons = c.saturating_add-self-inside.result } })
 does c =
     let over : is_over (view_of c.self.inside) ≡ false = ap is_over c.self.view_is ∙ sym c.is_over.ensures ∙ c.if-is_over.false in
-    abandon_does (view_of c.self.inside) c.args.worker c.place_of.result c.saturating_add-self-inside.result over c.place_of.ensures (omega (arith, c.len.ensures, c.if-place_of-len.false)) (sym c.restart_from.ensures.told ∙ c.if-restart_from.true) c.saturating_add-self-inside.ensures
+    abandon_does (view_of c.self.inside) c.args.worker c.place_of.result c.saturating_add-self-inside.result over c.place_of.ensures.number (omega (arith, c.len.ensures, c.if-place_of-len.false)) (sym c.restart_from.ensures.told ∙ c.if-restart_from.true) c.saturating_add-self-inside.ensures
 
 pub invariant_of-self : goal.invariant_of-self
 invariant_of-self c =
@@ -33,6 +33,6 @@ returns-then-restart_from c =
 pub returns-else-restart_from : goal.returns-else-restart_from
 returns-else-restart_from c =
     let over : is_over (view_of c.self.inside) ≡ false = ap is_over c.self.view_is ∙ sym c.is_over.ensures ∙ c.if-is_over.false in
-    let spent = abandon_spends (view_of c.self.inside) c.args.worker c.place_of.result over c.place_of.ensures (omega (arith, c.len.ensures, c.if-place_of-len.false)) (sym c.restart_from.ensures.told ∙ c.if-restart_from.false) in
+    let spent = abandon_spends (view_of c.self.inside) c.args.worker c.place_of.result over c.place_of.ensures.number (omega (arith, c.len.ensures, c.if-place_of-len.false)) (sym c.restart_from.ensures.told ∙ c.if-restart_from.false) in
     let moved = subst (λ (s : SlotsView). Becomes (view_of c.self.inside) (Abandon c.args.worker) (view_of (record c.self.inside { slots = s; is_spent = true }))) (sym (c.restart_from.ensures.kept c.if-restart_from.false)) spent in
     subst (λ (v : BoardView). Becomes v (Abandon c.args.worker) (view_of (record c.self.inside { slots = c.restart_from.new.self; is_spent = true }))) c.self.view_is moved

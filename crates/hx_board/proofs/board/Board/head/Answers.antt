@@ -13,12 +13,12 @@ returns-then-place_of-gt0 c =
     let b = view_of c.self.inside in
     let over : is_over b ≡ false = ap is_over c.self.view_is ∙ sym c.is_over.ensures ∙ c.if-is_over.false in
     let has = subst (λ (v : BoardView). has_attempt c.args.attempt (of_worker c.args.worker v.head v.active) ≡ true) (sym c.self.view_is) (sym c.has.ensures ∙ c.if-not-has.false) in
-    subst (λ (v : BoardView). Does v (AskHead c.args.worker c.args.attempt) NotYet v) c.self.view_is (head_behind b c.args.worker c.args.attempt c.place_of.result over c.place_of.ensures has c.if-place_of-gt0.true)
+    subst (λ (v : BoardView). Does v (AskHead c.args.worker c.args.attempt) NotYet v) c.self.view_is (head_behind b c.args.worker c.args.attempt c.place_of.result over c.place_of.ensures.number has c.if-place_of-gt0.true)
 
 pub returns : goal.returns
 returns c =
     let b = view_of c.self.inside in
     let over : is_over b ≡ false = ap is_over c.self.view_is ∙ sym c.is_over.ensures ∙ c.if-is_over.false in
     let has = subst (λ (v : BoardView). has_attempt c.args.attempt (of_worker c.args.worker v.head v.active) ≡ true) (sym c.self.view_is) (sym c.has.ensures ∙ c.if-not-has.false) in
-    let does = head_yours b c.args.worker c.args.attempt c.place_of.result over c.place_of.ensures has (omega (arith, c.if-place_of-gt0.false)) c.if-self.false in
+    let does = head_yours b c.args.worker c.args.attempt c.place_of.result over c.place_of.ensures.number has (omega (arith, c.if-place_of-gt0.false)) c.if-self.false in
     subst (λ (v : BoardView). Does v (AskHead c.args.worker c.args.attempt) (Yours (record { worker = c.args.worker; iteration = c.self.inside.head; attempt = c.args.attempt })) (view_of (record c.self.inside { is_out = true }))) c.self.view_is does

@@ -1,9 +1,7 @@
 use Rattle.std.proofs.Common.{rules, arith, ◌≡◌, ◌-◌, ◌≤◌, [], length, None, false, refl, ap, sym, subst, ◌∙◌}
 use Rattle.hx_tree.specs.declared.limits.TheConstants.{TEXT_LIMIT}
-use Rattle.hx_tree.specs.declared.outcome.Counts.{Counts}
-use Rattle.hx_code.specs.Code.{store_words}
 use Rattle.hx_code.specs.Region.{Opened}
-use Rattle.hx_word.specs.Entry.{EntryFits, padded, privates_in}
+use Rattle.hx_word.specs.Entry.{EntryFits, padded}
 use Rattle.hx_word.specs.Running.{IsOpened}
 use Rattle.hx_word.proofs.Entries.{privates_few, padded_is}
 use Rattle.hx_speculation.proofs.Calls.{opened_sound}
@@ -36,7 +34,7 @@ invariant_of-result c =
     let is : IsOpened code (opened_at s) = record { region = c.requires.region; below = omega (arith, c.requires.least, c.requires.depth); words = long_words; printed = c.requires.text } in
     let sound = opened_sound (region_on s) (store_of c.in_ok-from_slice.field-0.items) in
     let first : BoardView = record { setup = s; head = 0; active = []; store = c.in_ok-from_slice.field-0.items; text = []; exit = None; is_out = false; is_spent = false; counts = first_counts } in
-    let begun : IsKept first = record { sound = sound; long = ap length kept_store ∙ c.requires.store; below = tt; regions = refl; turns = refl; numbers = omega arith } in
+    let begun : IsKept first = record { sound = sound; long = ap length kept_store ∙ c.requires.store; below = tt; numbers = omega arith } in
     let stored = subst (λ st. IsKept (record first { store = st })) (sym same) begun in
     let texted = subst (λ ts. IsKept (record first { store = c.in_ok-from_slice-3.field-0.items; text = ts })) (sym c.in_ok-with_capacity.ensures.items) stored in
     let kept = subst (λ cs. IsKept (record first { store = c.in_ok-from_slice-3.field-0.items; text = c.in_ok-with_capacity.field-0.items; counts = cs })) (sym c.first_counts.ensures) texted in

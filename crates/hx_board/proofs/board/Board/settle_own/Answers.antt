@@ -1,9 +1,8 @@
-use Rattle.std.proofs.Common.{rules, arith, ◌≡◌, ◌+◌, ◌-◌, ◌^◌, ap₂, Some, ◌≤◌, ◌<◌, List, [], ◌∷◌, length, vec_len, false, true, refl, ap, sym, subst, ◌∙◌}
+use Rattle.std.proofs.Common.{rules, arith, ◌≡◌, ◌+◌, ◌-◌, ◌^◌, ap₂, Some, ◌<◌, List, [], ◌∷◌, length, false, true, refl, ap, sym, subst, ◌∙◌}
 use Rattle.std.specs.Prelude.{drop}
 use Rattle.std.specs.Vec.{with_items}
 use Rattle.hx_tree.specs.declared.outcome.Counts.{Counts}
 use Rattle.std.proofs.lemmas.List.{with_items_is}
-use Rattle.hx_tree.specs.declared.limits.TheConstants.{TEXT_LIMIT}
 use Rattle.hx_buffer.specs.Overlay.{overlay}
 use Rattle.hx_code.specs.Local.{LocalView}
 use Rattle.hx_code.specs.Region.{Opened, held}
@@ -16,7 +15,7 @@ use Rattle.hx_board.specs.Calls.{Does}
 use Rattle.hx_board.specs.declared.effect.Effect.TheVariants.{GoesOn, Passes, Ends}
 use Rattle.hx_board.specs.Known.{IsKept}
 use Rattle.hx_board.proofs.Lengths.{long_overlay}
-use Rattle.hx_board.specs.Effect.{IsDue, IsOfSlot}
+use Rattle.hx_board.specs.Effect.{IsDue}
 use Rattle.hx_board.specs.Keeps.{Kept, view_of}
 use Rattle.hx_board.proofs.Steps.{text_fits}
 use Rattle.hx_board.proofs.Settling.{due_at, token_of, settle_refuses, settle_goes_on, settle_passes, settle_spends, settle_ends, gone_on, passed_on, with_passed, ended_at, behind_frame, text_behind}

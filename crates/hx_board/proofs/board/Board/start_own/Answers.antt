@@ -1,10 +1,8 @@
-use Rattle.std.proofs.Common.{arith, ◌≡◌, ℕ, ◌+◌, ◌<◌, ◌^◌, [], ◌∷◌, ◌++◌, length, Some, None, true, false, refl, ap, sym, subst, ◌∙◌}
-use Rattle.hx_code.specs.Local.{LocalView}
+use Rattle.std.proofs.Common.{arith, ◌≡◌, ◌+◌, length, true, false, ap, sym, subst, ◌∙◌}
 use Rattle.hx_code.specs.Fits.{FitsLocal}
-use Rattle.hx_code.specs.Region.{Opened, opening}
+use Rattle.hx_code.specs.Region.{Opened}
 use Rattle.hx_frame.specs.Frame.{FrameView}
 use Rattle.hx_speculation.specs.Frame.{Frame, begins}
-use Rattle.hx_speculation.specs.Slots.{first_attempt, of_worker}
 use Rattle.hx_speculation.specs.Board.{Start, Go, Ended}
 use Rattle.hx_slots.specs.Slots.{SlotsView}
 use Rattle.hx_board.specs.Board.{BoardView, is_over, opened_at}
@@ -28,7 +26,7 @@ pub returns-then-place-len-clause-does : goal.returns-then-place-len-clause-does
 returns-then-place-len-clause-does c =
     let b = view_of c.self.inside in
     let over : is_over b ≡ false = ap is_over c.self.view_is ∙ sym c.is_over.ensures ∙ c.if-is_over.false in
-    let given = start_given b c.args.worker c.place_of-place.result c.at-slot.result.now.slot over c.place_of-place.ensures c.at-slot.ensures in
+    let given = start_given b c.args.worker c.place_of-place.result c.at-slot.result.now.slot over c.place_of-place.ensures.number c.at-slot.ensures in
     let frame : c.tag.new.self.frame ≡ begins c.args.worker (b.head + c.place_of-place.result) c.at-slot.result.now.slot.attempt c.at-slot.result.now.slot.start =
     ap (λ (f : FrameView). f.frame) c.tag.ensures ∙ ap (λ (f : FrameView). Rattle.hx_speculation.specs.Frame.tagged c.args.worker (b.head + c.place_of-place.result) c.attempt-attempt.result f.frame) c.restart.ensures ∙ ap (λ n. begins c.args.worker (b.head + c.place_of-place.result) n c.start.result.now) c.attempt-attempt.ensures ∙ ap (begins c.args.worker (b.head + c.place_of-place.result) c.at-slot.result.now.slot.attempt) c.start.ensures in
     subst (λ (v : BoardView). Does v (Start c.args.worker true) (Go c.tag.new.self.frame) v) c.self.view_is
@@ -38,13 +36,13 @@ pub returns-then-self-active-clause-does : goal.returns-then-self-active-clause-
 returns-then-self-active-clause-does c =
     let b = view_of c.self.inside in
     let over : is_over b ≡ false = ap is_over c.self.view_is ∙ sym c.is_over.ensures ∙ c.if-is_over.false in
-    let spent = start_spends b c.args.worker c.place_of-place.result over c.place_of-place.ensures (omega (arith, c.len.ensures, c.if-place-len.false)) (omega (arith, c.len-active.ensures, c.if-self-active.true)) in
+    let spent = start_spends b c.args.worker c.place_of-place.result over c.place_of-place.ensures.number (omega (arith, c.len.ensures, c.if-place-len.false)) (omega (arith, c.len-active.ensures, c.if-self-active.true)) in
     subst (λ (v : BoardView). Does v (Start c.args.worker true) Ended (view_of (record c.self.inside { is_spent = true }))) c.self.view_is spent
 
 pub begin-requires-2-clause-free : goal.begin-requires-2-clause-free
 begin-requires-2-clause-free c =
     let xs = c.self.inside.slots.active in
-    none_free c.args.worker 0 xs (c.place_of-place.ensures 0 ∙ numbered_none 0 xs c.place_of-place.result (omega (arith, c.len.ensures, c.if-place-len.false)))
+    none_free c.args.worker 0 xs (c.place_of-place.ensures.number 0 ∙ numbered_none 0 xs c.place_of-place.result (omega (arith, c.len.ensures, c.if-place-len.false)))
 
 next : (c : goal.After-tag-2) → Does (view_of c.self.inside) (Start c.args.worker true) (Go (begins c.args.worker (c.self.inside.head + length c.self.inside.slots.active) 1 c.begin.new.self)) (with_next (view_of c.self.inside) c.args.worker c.begin.new.self)
 next c =
@@ -53,7 +51,7 @@ next c =
     let o = opened_at b.setup in
     let same = c.self.invariant.opened in
     let at = c.begin.ensures.begun o (b.head + length b.active) (sym (ap (λ (p : Opened). p.region) same)) (sym (ap (λ (p : Opened). p.below) same)) (sym (ap (λ (p : Opened). p.words) same)) in
-    start_next b c.args.worker c.place_of-place.result c.begin.new.self over c.place_of-place.ensures (omega (arith, c.len.ensures, c.if-place-len.false)) (omega (arith, c.len-active.ensures, c.if-self-active.false, c.self.invariant.kept.numbers)) at
+    start_next b c.args.worker c.place_of-place.result c.begin.new.self over c.place_of-place.ensures.number (omega (arith, c.len.ensures, c.if-place-len.false)) (omega (arith, c.len-active.ensures, c.if-self-active.false, c.self.invariant.kept.numbers)) at
 
 pub invariant_of-self-2 : goal.invariant_of-self-2
 invariant_of-self-2 c =

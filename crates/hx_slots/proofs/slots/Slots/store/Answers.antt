@@ -5,7 +5,7 @@ use Rattle.hx_speculation.specs.Frame.{is_full}
 use Rattle.hx_speculation.specs.Board.{Capacities}
 use Rattle.hx_speculation.specs.Slots.{is_at, may_restart, restarted, written, with_write, StoreLost, BufferFull, NumbersEnd, Restarts}
 use Rattle.hx_slots.specs.Slot.{SlotView, slots_of, rooms_of, rooms_for}
-use Rattle.hx_slots.specs.Slots.{SlotsView, KeepsSlots, place_of, spared, workers_of}
+use Rattle.hx_slots.specs.Slots.{SlotsView, KeepsSlots, place_of, before_violated, workers_of}
 use Rattle.hx_slots.proofs.Busy.{workers_after_store}
 use Rattle.hx_slots.proofs.Calls.{store_lost, store_full, store_ends, store_done, store_writes, first_fits}
 use Rattle.hx_slots.proofs.Rooms.{rooms_at, rooms_set, rooms_same, same_long, workers_stay, slots_view, written_whole}
@@ -16,8 +16,8 @@ place_is : (w attempt k : ℕ) (read xs : List SlotView) → k ≡ place_of (λ 
 place_is w attempt k read xs at e = at ∙ ap (λ l. place_of (λ x. is_at x w attempt) (slots_of l)) e
 
 -- the first that is violated
-first_is : (k a : ℕ) (u v : ℤ) (first : ℕ) (read xs : List SlotView) → first ≡ k + 1 + spared a u (slots_of (drop (k + 1) read)) → u ≡ v → read ≡ xs → first ≡ k + 1 + spared a v (slots_of (drop (k + 1) xs))
-first_is k a u v first read xs is e f = is ∙ ap₂ (λ w l. k + 1 + spared a w (slots_of (drop (k + 1) l))) e f
+first_is : (k a : ℕ) (u v : ℤ) (first : ℕ) (read xs : List SlotView) → first ≡ k + 1 + before_violated a u (slots_of (drop (k + 1) read)) → u ≡ v → read ≡ xs → first ≡ k + 1 + before_violated a v (slots_of (drop (k + 1) xs))
+first_is k a u v first read xs is e f = is ∙ ap₂ (λ w l. k + 1 + before_violated a w (slots_of (drop (k + 1) l))) e f
 
 pub returns-then-place-len-clause-written : goal.returns-then-place-len-clause-written
 returns-then-place-len-clause-written c =
@@ -37,14 +37,14 @@ pub may_restart-requires : goal.may_restart-requires
 may_restart-requires c =
     let at = place_is _ _ _ _ _ c.place_at-place.ensures c.deref.ensures.value in
     let lt : c.place_at-place.result < length c.self.inside.active.items = omega (arith, c.if-place-len.false) in
-    let first : c.first_violated-first.result ≡ c.place_at-place.result + 1 + spared c.args.word c.args.value (slots_of (drop (c.place_at-place.result + 1) c.self.inside.active.items)) = first_is _ c.args.word _ _ _ _ _ c.first_violated-first.ensures (search rules) c.deref-2.ensures.value in
+    let first : c.first_violated-first.result ≡ c.place_at-place.result + 1 + before_violated c.args.word c.args.value (slots_of (drop (c.place_at-place.result + 1) c.self.inside.active.items)) = first_is _ c.args.word _ _ _ _ _ c.first_violated-first.ensures (search rules) c.deref-2.ensures.value in
     omega (arith, first_fits c.self.inside.buffer c.args.worker c.args.attempt c.args.word c.args.value c.self.inside.active.items c.place_at-place.result c.first_violated-first.result c.index.result.now at lt first, c.deref-3.ensures.len)
 
 pub returns-then-not-may_restart-clause-written : goal.returns-then-not-may_restart-clause-written
 returns-then-not-may_restart-clause-written c =
     let at = place_is _ _ _ _ _ c.place_at-place.ensures c.deref.ensures.value in
     let lt : c.place_at-place.result < length c.self.inside.active.items = omega (arith, c.if-place-len.false) in
-    let first : c.first_violated-first.result ≡ c.place_at-place.result + 1 + spared c.args.word c.args.value (slots_of (drop (c.place_at-place.result + 1) c.self.inside.active.items)) = first_is _ c.args.word _ _ _ _ _ c.first_violated-first.ensures (search rules) c.deref-2.ensures.value in
+    let first : c.first_violated-first.result ≡ c.place_at-place.result + 1 + before_violated c.args.word c.args.value (slots_of (drop (c.place_at-place.result + 1) c.self.inside.active.items)) = first_is _ c.args.word _ _ _ _ _ c.first_violated-first.ensures (search rules) c.deref-2.ensures.value in
     let room : is_full c.self.inside.buffer (get_or c.self.inside.active.items c.place_at-place.result c.index.result.now).slot.buffer c.args.word ≡ false = sym (c.if-is_full.ensures ∙ ap (λ (x : SlotView). is_full c.self.inside.buffer x.slot.buffer c.args.word) c.index.ensures) in
     let last = sym (c.if-not-may_restart.ensures ∙ ap (λ l. may_restart (slots_of (drop c.first_violated-first.result l))) c.deref-3.ensures.value) in
     subst (λ (v : SlotsView). NumbersEnd ≡ written v.rooms.buffer c.args.worker c.args.attempt c.args.word c.args.value v.active) c.self.view_is
@@ -63,14 +63,14 @@ pub restart-requires-clause-from : goal.restart-requires-clause-from
 restart-requires-clause-from c =
     let at = place_is _ _ _ _ _ c.place_at-place.ensures c.deref.ensures.value in
     let lt : c.place_at-place.result < length c.self.inside.active.items = omega (arith, c.if-place-len.false) in
-    let first : c.first_violated-first.result ≡ c.place_at-place.result + 1 + spared c.args.word c.args.value (slots_of (drop (c.place_at-place.result + 1) c.self.inside.active.items)) = first_is _ c.args.word _ _ _ _ _ c.first_violated-first.ensures (search rules) c.deref-2.ensures.value in
+    let first : c.first_violated-first.result ≡ c.place_at-place.result + 1 + before_violated c.args.word c.args.value (slots_of (drop (c.place_at-place.result + 1) c.self.inside.active.items)) = first_is _ c.args.word _ _ _ _ _ c.first_violated-first.ensures (search rules) c.deref-2.ensures.value in
     omega (arith, first_fits c.self.inside.buffer c.args.worker c.args.attempt c.args.word c.args.value c.self.inside.active.items c.place_at-place.result c.first_violated-first.result c.index.result.now at lt first, c.deref_mut.ensures.len)
 
 pub overflow_sub-result : goal.overflow_sub-result
 overflow_sub-result c =
     let at = place_is _ _ _ _ _ c.place_at-place.ensures c.deref.ensures.value in
     let lt : c.place_at-place.result < length c.self.inside.active.items = omega (arith, c.if-place-len.false) in
-    let first : c.first_violated-first.result ≡ c.place_at-place.result + 1 + spared c.args.word c.args.value (slots_of (drop (c.place_at-place.result + 1) c.self.inside.active.items)) = first_is _ c.args.word _ _ _ _ _ c.first_violated-first.ensures (search rules) c.deref-2.ensures.value in
+    let first : c.first_violated-first.result ≡ c.place_at-place.result + 1 + before_violated c.args.word c.args.value (slots_of (drop (c.place_at-place.result + 1) c.self.inside.active.items)) = first_is _ c.args.word _ _ _ _ _ c.first_violated-first.ensures (search rules) c.deref-2.ensures.value in
     omega (arith, first_fits c.self.inside.buffer c.args.worker c.args.attempt c.args.word c.args.value c.self.inside.active.items c.place_at-place.result c.first_violated-first.result c.index.result.now at lt first, c.len-2.ensures)
 
 -- what is written at the place
@@ -91,7 +91,7 @@ writes : (c : goal.After-len-2) → slots_of c.restart.new.active ≡ with_write
 writes c =
     let at = place_is _ _ _ _ _ c.place_at-place.ensures c.deref.ensures.value in
     let lt : c.place_at-place.result < length c.self.inside.active.items = omega (arith, c.if-place-len.false) in
-    let first : c.first_violated-first.result ≡ c.place_at-place.result + 1 + spared c.args.word c.args.value (slots_of (drop (c.place_at-place.result + 1) c.self.inside.active.items)) = first_is _ c.args.word _ _ _ _ _ c.first_violated-first.ensures (search rules) c.deref-2.ensures.value in
+    let first : c.first_violated-first.result ≡ c.place_at-place.result + 1 + before_violated c.args.word c.args.value (slots_of (drop (c.place_at-place.result + 1) c.self.inside.active.items)) = first_is _ c.args.word _ _ _ _ _ c.first_violated-first.ensures (search rules) c.deref-2.ensures.value in
     store_writes c.self.inside.buffer c.args.worker c.args.attempt c.args.word c.args.value c.self.inside.active.items c.place_at-place.result c.first_violated-first.result c.index.result.now at lt first c.write.new.self c.restart.new.active (ap (λ (x : SlotView). x.slot) (here c))
     (c.restart.ensures.slots ∙ ap (λ l. slots_of (take c.first_violated-first.result l) ++ map restarted (slots_of (drop c.first_violated-first.result l))) c.deref_mut.ensures.value)
 
@@ -115,7 +115,7 @@ pub returns-clause-written : goal.returns-clause-written
 returns-clause-written c =
     let at = place_is _ _ _ _ _ c.place_at-place.ensures c.deref.ensures.value in
     let lt : c.place_at-place.result < length c.self.inside.active.items = omega (arith, c.if-place-len.false) in
-    let first : c.first_violated-first.result ≡ c.place_at-place.result + 1 + spared c.args.word c.args.value (slots_of (drop (c.place_at-place.result + 1) c.self.inside.active.items)) = first_is _ c.args.word _ _ _ _ _ c.first_violated-first.ensures (search rules) c.deref-2.ensures.value in
+    let first : c.first_violated-first.result ≡ c.place_at-place.result + 1 + before_violated c.args.word c.args.value (slots_of (drop (c.place_at-place.result + 1) c.self.inside.active.items)) = first_is _ c.args.word _ _ _ _ _ c.first_violated-first.ensures (search rules) c.deref-2.ensures.value in
     let room : is_full c.self.inside.buffer (get_or c.self.inside.active.items c.place_at-place.result c.index.result.now).slot.buffer c.args.word ≡ false = sym (c.if-is_full.ensures ∙ ap (λ (x : SlotView). is_full c.self.inside.buffer x.slot.buffer c.args.word) c.index.ensures) in
     let may = sym (c.if-not-may_restart.ensures ∙ ap (λ l. may_restart (slots_of (drop c.first_violated-first.result l))) c.deref-3.ensures.value) in
     let count : c.len-2.result - c.first_violated-first.result ≡ length (drop c.first_violated-first.result c.self.inside.active.items) = omega (arith, c.len-2.ensures, length-drop c.first_violated-first.result c.self.inside.active.items) in

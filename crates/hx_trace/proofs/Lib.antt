@@ -1,0 +1,6 @@
+pub mod Attempts
+pub mod Tokens
+pub mod Turns
+pub mod Worlds
+pub mod Plainly
+pub mod Schedules

@@ -1,0 +1,51 @@
+-- What a replay tells.
+use Rattle.std.specs.Prelude.{◌≡◌, ℕ, List, false}
+use Rattle.hx_code.specs.Code.{CodeView}
+use Rattle.hx_code.specs.Local.{LocalView}
+use Rattle.hx_code.specs.Region.{region_after}
+use Rattle.hx_word.specs.declared.entry.Entry.{Entry}
+use Rattle.hx_word.specs.Laws.{begun_from}
+use Rattle.hx_frame.specs.declared.frame.Capacities.{Capacities}
+use Rattle.hx_regions.specs.Region.{store_of}
+use Rattle.hx_speculation.specs.Board.{Board}
+use Rattle.hx_speculation.specs.Replay.{replayed, world_at}
+use Rattle.hx_board.specs.Board.{BoardView, rooms_of, opening_board}
+use Rattle.hx_board.specs.Ends.{state_of}
+use Rattle.hx_trace.specs.declared.trace.Trace.{Trace}
+use Rattle.hx_trace.specs.declared.worker.Worker.{Worker}
+use Rattle.hx_trace.specs.Turns.{course_of}
+
+-- the board that a schedule leads to, by the definition, from an entry on which nothing has run
+abbrev pub board_after : CodeView → ℕ → Entry → ℕ → Capacities → List ℕ → Board LocalView
+board_after code region e slots rooms schedule = (replayed (course_of (opening_board code region e slots rooms).setup) schedule (world_at (store_of e.store.items))).board
+
+-- a trace tells a board's store, text, state and counts
+pub record IsTraceOf (b : Board LocalView) (t : Trace) : Type 0 where
+  pub store : store_of t.store.items ≡ b.store
+  pub text : t.text.items ≡ b.text
+  pub state : t.state ≡ state_of b.exit
+  pub counts : t.counts ≡ b.counts
+
+-- one thread's region of this code, from the same entry, has this store, text, state and so many whole turns after some words
+pub record ShowsPlain (code : CodeView) (region : ℕ) (e : Entry) (t : Trace) : Type 0 where
+  pub words : ℕ
+  pub store : t.store.items ≡ (region_after code words (begun_from code region e)).store
+  pub text : t.text.items ≡ (region_after code words (begun_from code region e)).text
+  pub state : t.state ≡ state_of (region_after code words (begun_from code region e)).exit
+  pub turns : t.counts.turns ≡ (region_after code words (begun_from code region e)).turns
+  pub regions : t.counts.regions ≡ 1
+
+-- ---- within a replay
+
+-- a trace copied from a board
+pub record IsTold (b : BoardView) (t : Trace) : Type 0 where
+  pub store : t.store.items ≡ b.store
+  pub text : t.text.items ≡ b.text
+  pub state : t.state ≡ state_of b.exit
+  pub counts : t.counts ≡ b.counts
+
+-- a worker that has not begun
+pub record IsNew (c : CodeView) (r : Capacities) (x : Worker) : Type 0 where
+  pub code : x.frame.code ≡ c
+  pub rooms : rooms_of x.frame.capacities ≡ rooms_of r
+  pub stands : x.is_running ≡ false
