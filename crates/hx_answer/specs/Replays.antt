@@ -21,20 +21,12 @@ use Rattle.hx_answer.specs.declared.replaying.Schedule.{Schedule}
 
 -- ---- digits
 
--- '0' to '9'
-abbrev pub IsDigit : ℕ → Type 0
-IsDigit byte = (48 ≤ byte) × (byte ≤ 57)
-
 abbrev pub digit : ℕ → ℕ
 digit byte = byte - 48
 
--- the digit of one of so many workers
+-- the digit, '0' to '9', of one of so many workers
 abbrev pub IsWorker : ℕ → ℕ → Type 0
-IsWorker workers byte = IsDigit byte × (digit byte < workers)
-
-abbrev pub RefusesDigits : List ℕ → TraceError → Type 0
-RefusesDigits digits schedule.NoSuchWorker = All IsDigit digits → ⊥
-RefusesDigits digits schedule.Memory = Unit {0}
+IsWorker workers byte = (48 ≤ byte) × (byte ≤ 57) × (digit byte < workers)
 
 -- 40 means that a byte is no worker's digit, and 41 nothing
 abbrev pub RefusesWorkers : Settings → List ℕ → TraceError → Type 0

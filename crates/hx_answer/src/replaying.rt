@@ -1,8 +1,8 @@
 // A schedule that is replayed on a region of a source's run.
 
-ghost use Rattle.std.specs.Prelude.{◌≡◌, All, map, IfOk, IfErr};
+ghost use Rattle.std.specs.Prelude.{◌≡◌, ◌↔◌, All, map, IfOk, IfErr, IsTrue};
 ghost use Rattle.hx_word.specs.Entry.{EntryFits};
-ghost use Rattle.hx_answer.specs.Replays.{digit, IsDigit, IsFrom, IsReplayOf, Reaches, RefusesEntry, RefusesReplay, RefusesWorkers, RefusesDigits};
+ghost use Rattle.hx_answer.specs.Replays.{digit, IsFrom, IsReplayOf, IsWorker, Reaches, RefusesEntry, RefusesReplay, RefusesWorkers};
 ghost use Rattle.hx_answer.specs.declared.replaying.NoTrace.TheVariants as no_trace;
 ghost use Rattle.hx_word.specs.declared.plain.Reached.TheVariants as reached;
 
@@ -13,7 +13,7 @@ use hx_trace::{Trace, TraceError, replay};
 use hx_tree::outcome::Settings;
 use hx_word::entry::Entry;
 use hx_word::plain::{Plain, Reached};
-use std::alloc::Global;
+use std::alloc::{AllocError, Global};
 use thiserror::Error;
 
 /// A schedule, and the region that it is for.
@@ -88,22 +88,24 @@ fn reach(
     }
 }
 
-// The numbers of digits.
-fn workers_of(alloc: Global, digits: &[u8]) -> Result<Vec<u8>, TraceError>
-    ensures numbers { IfOk result (λ v. v.items ≡ map digit digits.now) }
-    ensures digits { IfOk result (λ _. All IsDigit digits.now) }
-    ensures refused { IfErr result (RefusesDigits digits.now) }
+// Whether each byte is the digit of one of so many workers.
+fn are_workers(digits: &[u8], workers: u32) -> bool
+    ensures { IsTrue result ↔ All (IsWorker workers) digits.now }
 {
-    if !digits.iter().all(|byte| *byte >= b'0' && *byte <= b'9') {
-        return Err(TraceError::NoSuchWorker);
+    digits
+        .iter()
+        .all(|byte| *byte >= b'0' && *byte <= b'9' && u32::from(*byte - b'0') < workers)
+}
+
+// The numbers of digits.
+fn numbers_of(alloc: Global, digits: &[u8]) -> Result<Vec<u8>, AllocError>
+    ensures { IfOk result (λ v. v.items ≡ map digit digits.now) }
+{
+    let mut numbers = Vec::with_capacity(alloc, digits.len())?;
+    for byte in digits {
+        numbers.push(byte.saturating_sub(b'0'))?;
     }
-    let Ok(mut workers) = Vec::from_slice(alloc, digits) else {
-        return Err(TraceError::Memory);
-    };
-    for worker in &mut workers {
-        *worker = worker.wrapping_sub(b'0');
-    }
-    Ok(workers)
+    Ok(numbers)
 }
 
 // The trace of a schedule from a region's entry.
@@ -119,19 +121,25 @@ fn trace_from(
     ensures told { IfOk result (IsFrom code.now region entry.now settings digits.now) }
     ensures refused { IfErr result (RefusesWorkers settings digits.now) }
 {
-    let workers = workers_of(alloc, digits)?;
+    if !are_workers(digits, settings.workers) {
+        return Err(TraceError::NoSuchWorker);
+    }
+    let Ok(schedule) = numbers_of(alloc, digits) else {
+        return Err(TraceError::Memory);
+    };
     let capacities = Capacities {
         marks: settings.marks,
         buffer: settings.buffer,
     };
+    let slots = settings.workers;
     replay(
         alloc,
         code,
         region,
         entry,
-        settings.workers,
+        slots,
         capacities,
-        workers.as_slice(),
+        schedule.as_slice(),
     )
 }
 

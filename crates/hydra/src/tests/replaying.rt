@@ -128,3 +128,17 @@ fn prints_what_a_region_has_settled(rt: HostRuntime) -> Result<(), Fail> {
     shows(&rt, p, source, &words, wanted, b"", 0)?;
     Ok(())
 }
+
+// What is replayed in docs/REPLAYING.md, beside the schedule with a violation.
+#[test]
+fn replays_lessons(rt: HostRuntime) -> Result<(), Fail> {
+    let p = "hydra-test-lessons.hc";
+    let forwarded = b"state left\nturns 2\nrepeats 0\nviolations 0\nrestarts 0\nholds 0\nabandons 0\ndiscarded 0\n";
+    replays(&rt, p, "00011100110000", forwarded, b"", 0)?;
+    let source = b"int a; int done; int main(){ pwhile(done<1){ a=5; done=1; } }";
+    let words = [
+        "hydra", "replay", p, "000011111000111011", "--workers", "2", "--buffer", "1",
+    ];
+    let held = b"state left\nturns 1\nrepeats 0\nviolations 1\nrestarts 1\nholds 2\nabandons 0\ndiscarded 0\n";
+    shows(&rt, p, source, &words, held, b"", 0)
+}
