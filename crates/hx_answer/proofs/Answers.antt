@@ -1,37 +1,84 @@
--- From a finish that is shown to what a command answers.
-use Rattle.std.proofs.Common.{◌≡◌, ℕ, ℤ, List, Option}
-use Rattle.hx_tree.specs.declared.outcome.End.{End}
-use Rattle.hx_tree.specs.declared.outcome.End.TheVariants.{Normal, Fault}
-use Rattle.hx_tree.specs.declared.outcome.Finish.{Finish}
-use Rattle.hx_tree.specs.declared.outcome.Settings.{Settings}
-use Rattle.hx_run.specs.Headline.{IsFinishOf}
-use Rattle.hx_answer.specs.declared.status.Status.{Status}
+-- From a refusal to the answer that tells it.
+use Rattle.std.proofs.Common.{◌≡◌, ℕ, ℤ, Bool, true, false, if◌then◌else◌, List, Option, refl, sym, inl, inr}
+use Rattle.hx_code.specs.Code.{CodeView}
+use Rattle.hx_trace.specs.declared.trace.TraceError.TheVariants as schedule
+use Rattle.hx_run.specs.declared.refusal.Refusal.{Refusal}
+use Rattle.hx_run.specs.declared.refusal.Refusal.TheVariants as refusal
+use Rattle.hx_run.specs.Refusals.{is_memory, is_of_device, RefusesSource}
+use Rattle.hx_run.specs.Executions.{IsOfReading, IsReadOf}
+use Rattle.hx_answer.specs.declared.replaying.NoTrace.{NoTrace}
+use Rattle.hx_answer.specs.declared.replaying.NoTrace.TheVariants as no_trace
+use Rattle.hx_answer.specs.declared.replaying.Schedule.{Schedule}
 use Rattle.hx_answer.specs.declared.status.Status.TheVariants as status
-use Rattle.hx_answer.specs.Statuses.{status_of_end}
-use Rattle.hx_answer.specs.Answers.{ShowsFinish, RunAnswer, PlainAnswer}
+use Rattle.hx_answer.specs.Statuses.{status_of_no_trace, status_of_refusal}
+use Rattle.hx_answer.specs.Replays.{RefusesReplay}
+use Rattle.hx_answer.specs.Answers.{failed_devices, CodeAnswer, ReplayAnswer}
+use Rattle.hx_answer.proofs.Statuses.{run_fails_no_device}
 
-no_end_is_refused : (e : End) → status.Refused ≡ status_of_end e → ⊥
-no_end_is_refused (Normal returned) same = absurd cc
-no_end_is_refused (Fault fault) same = absurd cc
+-- ---- what is made of code
 
-no_end_is_memory : (e : End) → status.Memory ≡ status_of_end e → ⊥
-no_end_is_memory (Normal returned) same = absurd cc
-no_end_is_memory (Fault fault) same = absurd cc
+pub code_reading : (text : CodeView → List ℕ) (source rest old : Option (List ℕ)) (e : Refusal) → IsOfReading e → CodeAnswer text source rest old old (status_of_refusal e)
+code_reading text source rest old refusal.ReadFailed h = tt
+code_reading text source rest old refusal.Memory h = refl
+code_reading text source rest old (refusal.Lex e) h = absurd h
+code_reading text source rest old (refusal.Parse e) h = absurd h
+code_reading text source rest old (refusal.Check e) h = absurd h
+code_reading text source rest old (refusal.Lower e) h = absurd h
+code_reading text source rest old refusal.Pool h = absurd h
+code_reading text source rest old refusal.Settings h = absurd h
+code_reading text source rest old refusal.InputTooLong h = absurd h
+code_reading text source rest old refusal.WriteFailed h = absurd h
+code_reading text source rest old refusal.InputText h = absurd h
 
--- a finish that is shown is an answer of either kind of run
+code_by_flags : (text : CodeView → List ℕ) (source rest old : Option (List ℕ)) (bytes : List ℕ) (e : Refusal) (m d : Bool) → is_memory e ≡ m → is_of_device e ≡ d
+    → IsReadOf source rest bytes → RefusesSource bytes e → CodeAnswer text source rest old old (if m then status.Memory else (if d then status.Device else status.Refused))
+code_by_flags text source rest old bytes e true d em ed is h = refl
+code_by_flags text source rest old bytes e false true em ed is h = tt
+code_by_flags text source rest old bytes e false false em ed is h =
+    (record { bytes = bytes; is_read = is; says = record { refusal = e; says = h; certain = rw (em, ed) refl } }, refl)
 
-pub run_told : (source : List ℕ) (input : List ℤ) (settings : Settings) (old new : Option (List ℕ)) (s : Status) (f : Finish)
-    → IsFinishOf source input f → ShowsFinish f old new s → RunAnswer source input settings old new s
-run_told source input settings old new status.Done f is shows = record { finish = f; is_finish = is; shows = shows }
-run_told source input settings old new status.Fault f is shows = record { finish = f; is_finish = is; shows = shows }
-run_told source input settings old new status.Device f is shows = record { finish = f; is_finish = is; shows = shows }
-run_told source input settings old new status.Refused f is shows = absurd (no_end_is_refused f.outcome.end shows.0)
-run_told source input settings old new status.Memory f is shows = absurd (no_end_is_memory f.outcome.end shows.0)
+pub code_refused : (text : CodeView → List ℕ) (source rest old : Option (List ℕ)) (bytes : List ℕ) (e : Refusal) → IsReadOf source rest bytes → RefusesSource bytes e
+    → CodeAnswer text source rest old old (status_of_refusal e)
+code_refused text source rest old bytes e is h = code_by_flags text source rest old bytes e (is_memory e) (is_of_device e) refl refl is h
 
-pub plain_told : (source : List ℕ) (input : List ℤ) (steps : ℕ) (old new : Option (List ℕ)) (s : Status) (f : Finish)
-    → IsFinishOf source input f → ShowsFinish f old new s → PlainAnswer source input steps old new s
-plain_told source input steps old new status.Done f is shows = record { finish = f; is_finish = is; shows = shows }
-plain_told source input steps old new status.Fault f is shows = record { finish = f; is_finish = is; shows = shows }
-plain_told source input steps old new status.Device f is shows = record { finish = f; is_finish = is; shows = shows }
-plain_told source input steps old new status.Refused f is shows = absurd (no_end_is_refused f.outcome.end shows.0)
-plain_told source input steps old new status.Memory f is shows = absurd (no_end_is_memory f.outcome.end shows.0)
+-- ---- replays
+
+pub replay_reading : (input : List ℤ) (asked : Schedule) (source rest old : Option (List ℕ)) (e : Refusal) → IsOfReading e → ReplayAnswer input asked source rest old old (status_of_refusal e)
+replay_reading input asked source rest old refusal.ReadFailed h = tt
+replay_reading input asked source rest old refusal.Memory h = refl
+replay_reading input asked source rest old (refusal.Lex e) h = absurd h
+replay_reading input asked source rest old (refusal.Parse e) h = absurd h
+replay_reading input asked source rest old (refusal.Check e) h = absurd h
+replay_reading input asked source rest old (refusal.Lower e) h = absurd h
+replay_reading input asked source rest old refusal.Pool h = absurd h
+replay_reading input asked source rest old refusal.Settings h = absurd h
+replay_reading input asked source rest old refusal.InputTooLong h = absurd h
+replay_reading input asked source rest old refusal.WriteFailed h = absurd h
+replay_reading input asked source rest old refusal.InputText h = absurd h
+
+replay_by_flags : (input : List ℤ) (asked : Schedule) (source rest old : Option (List ℕ)) (bytes : List ℕ) (e : Refusal) (m d : Bool) → is_memory e ≡ m → is_of_device e ≡ d
+    → IsReadOf source rest bytes → RefusesReplay bytes input asked (no_trace.Refused e)
+    → ReplayAnswer input asked source rest old old (if m then status.Memory else (if d then status.Device else status.Refused))
+replay_by_flags input asked source rest old bytes e true d em ed is h = refl
+replay_by_flags input asked source rest old bytes e false true em ed is h = tt
+replay_by_flags input asked source rest old bytes e false false em ed is h =
+    (inr (record { bytes = bytes; is_read = is; says = record { refusal = no_trace.Refused e; says = h; certain = rw (em, ed) refl } }), refl)
+
+pub replay_refused : (input : List ℤ) (asked : Schedule) (source rest old : Option (List ℕ)) (bytes : List ℕ) (why : NoTrace) → IsReadOf source rest bytes
+    → RefusesReplay bytes input asked why → ReplayAnswer input asked source rest old old (status_of_no_trace why)
+replay_refused input asked source rest old bytes (no_trace.Refused e) is h =
+    replay_by_flags input asked source rest old bytes e (is_memory e) (is_of_device e) refl refl is h
+replay_refused input asked source rest old bytes no_trace.NoEntry is h =
+    (inr (record { bytes = bytes; is_read = is; says = record { refusal = no_trace.NoEntry; says = h; certain = refl } }), refl)
+replay_refused input asked source rest old bytes no_trace.NotEnded is h =
+    (inr (record { bytes = bytes; is_read = is; says = record { refusal = no_trace.NotEnded; says = h; certain = refl } }), refl)
+replay_refused input asked source rest old bytes (no_trace.Schedule schedule.NoSuchWorker) is h =
+    (inr (record { bytes = bytes; is_read = is; says = record { refusal = no_trace.Schedule schedule.NoSuchWorker; says = h; certain = refl } }), refl)
+replay_refused input asked source rest old bytes (no_trace.Schedule schedule.Memory) is h = refl
+
+pub replay_fails_no_device : (bytes : List ℕ) (input : List ℤ) (asked : Schedule) (why : NoTrace) → RefusesReplay bytes input asked why → failed_devices (status_of_no_trace why) ≡ 0
+replay_fails_no_device bytes input asked (no_trace.Refused e) h = run_fails_no_device bytes input e h
+replay_fails_no_device bytes input asked no_trace.NoEntry h = refl
+replay_fails_no_device bytes input asked no_trace.NotEnded h = refl
+replay_fails_no_device bytes input asked (no_trace.Schedule schedule.NoSuchWorker) h = refl
+replay_fails_no_device bytes input asked (no_trace.Schedule schedule.Memory) h = refl

@@ -1,71 +1,82 @@
--- What a command answers for the bytes that it was given: its status, and what its output has taken before and after it.
-use Rattle.std.specs.Prelude.{◌≡◌, ◌⊎◌, ℕ, ℤ, List, [], ◌∷◌, ◌++◌, Option, codes, false}
+-- What a command answers: its status, what it has read of its source, and what its output has taken.
+use Rattle.std.specs.Prelude.{◌≡◌, ◌⊎◌, ℕ, ℤ, List, [], ◌∷◌, ◌++◌, Option, Result, IfOk, IfErr, codes}
 use Rattle.std.specs.Io.KnownBytes.{Appends}
-use Rattle.hx_tree.specs.declared.outcome.Finish.{Finish}
 use Rattle.hx_tree.specs.declared.outcome.Settings.{Settings}
 use Rattle.hx_code.specs.Code.{CodeView}
-use Rattle.hx_lower.specs.Listing.{listing_of}
+use Rattle.hx_lower.specs.Listing.{listing_of as words_of}
+use Rattle.hx_trace.specs.declared.trace.Trace.{Trace}
+use Rattle.hx_trace.specs.Text.{listing_of as text_of}
+use Rattle.hx_run.specs.declared.executing.Mode.{Mode}
+use Rattle.hx_run.specs.declared.executing.Done.{Done}
 use Rattle.hx_run.specs.declared.refusal.Refusal.{Refusal}
-use Rattle.hx_run.specs.declared.refusal.Refusal.TheVariants as refusal
-use Rattle.hx_run.specs.declared.running.PlainRan.TheVariants.{More}
-use Rattle.hx_run.specs.Refusals.{is_memory, RefusesSource}
-use Rattle.hx_run.specs.Headline.{AreInRange, IsCodeOf, IsFinishOf, IsPlainRanOf, RefusesRun}
+use Rattle.hx_run.specs.Refusals.{RefusesSource}
+use Rattle.hx_run.specs.Headline.{AreInRange, IsCodeOf}
+use Rattle.hx_run.specs.Executions.{IsDone, OfRead, Refuses}
+use Rattle.hx_answer.specs.declared.replaying.NoTrace.{NoTrace}
+use Rattle.hx_answer.specs.declared.replaying.Schedule.{Schedule}
 use Rattle.hx_answer.specs.declared.status.Status.{Status}
 use Rattle.hx_answer.specs.declared.status.Status.TheVariants as status
-use Rattle.hx_answer.specs.Statuses.{status_of_end}
+use Rattle.hx_answer.specs.Statuses.{status_of_execution, status_of_no_trace, status_of_refusal}
+use Rattle.hx_answer.specs.Replays.{IsReplayOf, RefusesReplay}
+
+-- how many devices have failed in a call with this status
+abbrev pub failed_devices : Status → ℕ
+failed_devices status.Device = 1
+failed_devices _ = 0
 
 -- a text is shown: unless the device failed, the output has taken it whole
 abbrev pub ShowsText : List ℕ → Option (List ℕ) → Option (List ℕ) → Status → Type 0
 ShowsText text old new status.Done = Appends old new text
 ShowsText text old new status.Device = Unit {0}
-ShowsText text old new s = ⊥
+ShowsText text old new _ = ⊥
 
--- a finish is shown: unless the device failed, the status is that of its end, and the output has taken its whole text
-abbrev pub ShowsFinish : Finish → Option (List ℕ) → Option (List ℕ) → Status → Type 0
-ShowsFinish f old new status.Device = Unit {0}
-ShowsFinish f old new s = (s ≡ status_of_end f.outcome.end) × Appends old new f.outcome.text.items
+-- ---- runs
 
--- some finish of the source and the input is shown
-pub record IsTold (source : List ℕ) (input : List ℤ) (old : Option (List ℕ)) (new : Option (List ℕ)) (s : Status) : Type 0 where
-  pub finish : Finish
-  pub is_finish : IsFinishOf source input finish
-  pub shows : ShowsFinish finish old new s
+-- what an execution answers
+pub record Executed (mode : Mode) (input : List ℤ) (source rest old new : Option (List ℕ)) (r : Result Done Refusal) : Type 0 where
+  pub done : IfOk r (IsDone mode input source rest old new)
+  pub refused : IfErr r (Refuses mode input source rest old new)
 
--- some refusal came, not for want of memory, with what it means
-pub record IsRefused (Says : Refusal → Type 0) : Type 0 where
-  pub refusal : Refusal
+-- the status is that of an execution
+pub record ExecutionAnswer (mode : Mode) (settings : Settings) (input : List ℤ) (source rest old new : Option (List ℕ)) (s : Status) : Type 0 where
+  pub executed : Result Done Refusal
+  pub is_executed : Executed mode input source rest old new executed
+  pub is_status : s ≡ status_of_execution executed
+
+-- ---- what is made of code
+
+-- some refusal came that has this status, with what it means
+pub record IsRefused {E : Type 0} (status_of : E → Status) (Says : E → Type 0) : Type 0 where
+  pub refusal : E
   pub says : Says refusal
-  pub certain : is_memory refusal ≡ false
-
--- a refusal of a run: 60 is that of the settings
-abbrev pub RefusesWith : List ℕ → List ℤ → Settings → Refusal → Type 0
-RefusesWith source input settings refusal.Settings = AreInRange settings → ⊥
-RefusesWith source input settings e = RefusesRun source input e
-
--- the command `run`
-abbrev pub RunAnswer : List ℕ → List ℤ → Settings → Option (List ℕ) → Option (List ℕ) → Status → Type 0
-RunAnswer source input settings old new status.Refused = IsRefused (RefusesWith source input settings) × (new ≡ old)
-RunAnswer source input settings old new status.Memory = new ≡ old
-RunAnswer source input settings old new s = IsTold source input old new s
-
--- the command `plain`: a run that isn't over is refused as well
-abbrev pub PlainAnswer : List ℕ → List ℤ → ℕ → Option (List ℕ) → Option (List ℕ) → Status → Type 0
-PlainAnswer source input steps old new status.Refused = (IsRefused (RefusesRun source input) ⊎ IsPlainRanOf source input steps More) × (new ≡ old)
-PlainAnswer source input steps old new status.Memory = new ≡ old
-PlainAnswer source input steps old new s = IsTold source input old new s
+  pub certain : status_of refusal ≡ status.Refused
 
 -- a command that shows a text of the code of the source
-abbrev pub CodeAnswer : (CodeView → List ℕ) → List ℕ → Option (List ℕ) → Option (List ℕ) → Status → Type 0
-CodeAnswer text source old new status.Done = (code : CodeView) × IsCodeOf source code × Appends old new (text code)
-CodeAnswer text source old new status.Refused = IsRefused (RefusesSource source) × (new ≡ old)
-CodeAnswer text source old new status.Memory = new ≡ old
-CodeAnswer text source old new status.Device = Unit {0}
-CodeAnswer text source old new status.Fault = ⊥
+abbrev pub CodeAnswer : (CodeView → List ℕ) → Option (List ℕ) → Option (List ℕ) → Option (List ℕ) → Option (List ℕ) → Status → Type 0
+CodeAnswer text source rest old new status.Done = OfRead source rest (λ bytes. (code : CodeView) × IsCodeOf bytes code × Appends old new (text code))
+CodeAnswer text source rest old new status.Refused = OfRead source rest (λ bytes. IsRefused status_of_refusal (RefusesSource bytes)) × (new ≡ old)
+CodeAnswer text source rest old new status.Memory = new ≡ old
+CodeAnswer text source rest old new status.Device = Unit {0}
+CodeAnswer text source rest old new status.Fault = ⊥
 
 -- the command `check`: a line `ok`
-abbrev pub CheckAnswer : List ℕ → Option (List ℕ) → Option (List ℕ) → Status → Type 0
+abbrev pub CheckAnswer : Option (List ℕ) → Option (List ℕ) → Option (List ℕ) → Option (List ℕ) → Status → Type 0
 CheckAnswer = CodeAnswer (λ _. codes "ok" ++ 10 ∷ [])
 
 -- the command `words`
-abbrev pub WordsAnswer : List ℕ → Option (List ℕ) → Option (List ℕ) → Status → Type 0
-WordsAnswer = CodeAnswer listing_of
+abbrev pub WordsAnswer : Option (List ℕ) → Option (List ℕ) → Option (List ℕ) → Option (List ℕ) → Status → Type 0
+WordsAnswer = CodeAnswer words_of
+
+-- ---- replays
+
+-- the settings were out of range, or the source, its input, the entry or the schedule were refused
+abbrev pub RefusesAsked : List ℤ → Schedule → Option (List ℕ) → Option (List ℕ) → Type 0
+RefusesAsked input asked source rest = (AreInRange asked.settings → ⊥) ⊎ OfRead source rest (λ bytes. IsRefused status_of_no_trace (RefusesReplay bytes input asked))
+
+-- the command `replay`
+abbrev pub ReplayAnswer : List ℤ → Schedule → Option (List ℕ) → Option (List ℕ) → Option (List ℕ) → Option (List ℕ) → Status → Type 0
+ReplayAnswer input asked source rest old new status.Done = OfRead source rest (λ bytes. (t : Trace) × IsReplayOf bytes input asked t × Appends old new (text_of t))
+ReplayAnswer input asked source rest old new status.Refused = RefusesAsked input asked source rest × (new ≡ old)
+ReplayAnswer input asked source rest old new status.Memory = new ≡ old
+ReplayAnswer input asked source rest old new status.Device = Unit {0}
+ReplayAnswer input asked source rest old new status.Fault = ⊥

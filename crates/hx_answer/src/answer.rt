@@ -1,86 +1,154 @@
-// What each command does with the bytes that were read.
+// What each command does.
 
-ghost use Rattle.hx_answer.specs.Answers.{RunAnswer, PlainAnswer, CheckAnswer, WordsAnswer};
+ghost use Rattle.std.specs.Prelude.{◌≡◌, ℕ, ◌+◌, ◌-◌, ◌^◌, ◌<◌};
+ghost use Rattle.hx_answer.specs.Answers.{failed_devices, CheckAnswer, ExecutionAnswer, ReplayAnswer, ShowsText, WordsAnswer};
 
-use crate::status::{Status, show_finish, show_text, tell_memory, tell_not_ended, tell_refusal};
-use hx_lower::listing;
-use hx_run::{PlainRan, Unwatched, compile, run, run_plain};
+use crate::replaying::{Schedule, trace_of};
+use crate::status::{
+    Status, tell_execution, tell_memory, tell_no_trace, tell_refusal, tell_write_failed,
+};
+use hx_device::{ByteSink, ByteSource, write_all};
+use hx_lower::listing as words_listing;
+use hx_run::{
+    Mode, Refusal, Unwatched, are_in_range, compile, execute, read_source,
+};
+use hx_trace::listing as trace_listing;
 use hx_tree::outcome::Settings;
 use std::alloc::Global;
 use std::io::Write;
 use std::sync::Wait;
 use std::thread::Threads;
 
-/// Runs a source on an input, to its end, its marked loops on threads, and writes what it prints.
+/// Runs a source on an input, as `hx_run::execute` does, and tells what came of it on the error stream.
 ///
-/// Where the status is that of a normal end or of a fault, what `out` has taken is the whole text of the program of the source,
-/// and its end is that one. A refusal means what it means for `hx_run::run`.
-pub fn answer_run<R: Threads + Wait + Sync, W: Write, E: Write>(
+/// The status is that of its end: `Done` or `Fault` where the run is over and its text, and the report that was asked for, were written;
+/// `Refused` for a refusal or a run that isn't over, and `Memory` for want of it, with nothing written; `Device` exactly where the source or
+/// the output has failed in this call.
+pub fn answer_execution<
+    R: Threads + Wait + Sync,
+    S: ByteSource,
+    K: ByteSink,
+    E: Write,
+>(
     alloc: Global,
     rt: &R,
-    source: &[u8],
+    mode: Mode,
+    source: &mut S,
     input: &[i32],
     settings: Settings,
-    out: &mut W,
+    out: &mut K,
     err: &mut E,
 ) -> Status
-    ensures { RunAnswer source.now input.now settings (W.contents out.old) (W.contents out.new) result }
+    requires source { S.failures source.old < 2 ^ 64 - 1 }
+    requires out { K.failures out.old < 2 ^ 64 - 1 }
+    ensures answer { ExecutionAnswer mode settings input.now (S.rest source.old) (S.rest source.new) (K.written out.old) (K.written out.new) result }
+    ensures devices { S.failures source.new + K.failures out.new ≡ S.failures source.old + K.failures out.old + failed_devices result }
 {
-    match run(alloc, rt, source, input, settings, &Unwatched) {
-        Ok(finish) => show_finish(&finish, out, err),
-        Err(refusal) => tell_refusal(err, &refusal),
+    let executed = execute(alloc, rt, mode, source, input, out, settings, &Unwatched);
+    tell_execution(err, &executed, steps_of(mode))
+}
+
+// How many steps a mode gives a run.
+fn steps_of(mode: Mode) -> u64 {
+    match mode {
+        Mode::Run { stats: _ } => 0,
+        Mode::Plain { steps, stats: _ } => steps,
     }
 }
 
-/// Runs a source on an input, for at most so many words of its code, and writes what it prints.
-///
-/// As `answer_run`; a run that isn't over is a refusal, and then nothing is written to `out`.
-pub fn answer_plain<W: Write, E: Write>(
-    alloc: Global,
-    source: &[u8],
-    input: &[i32],
-    steps: u64,
-    out: &mut W,
-    err: &mut E,
-) -> Status
-    ensures { PlainAnswer source.now input.now steps (W.contents out.old) (W.contents out.new) result }
+// Writes a text.
+fn show_text<K: ByteSink, E: Write>(text: &[u8], out: &mut K, err: &mut E) -> Status
+    requires { K.failures out.old < 2 ^ 64 - 1 }
+    ensures shown { ShowsText text.now (K.written out.old) (K.written out.new) result }
+    ensures devices { K.failures out.new ≡ K.failures out.old + failed_devices result }
 {
-    match run_plain(alloc, source, input, steps) {
-        Ok(PlainRan::Ended(finish)) => show_finish(&finish, out, err),
-        Ok(PlainRan::More) => tell_not_ended(err, steps),
-        Err(refusal) => tell_refusal(err, &refusal),
+    match write_all(out, text) {
+        Ok(()) => Status::Done,
+        Err(_) => tell_write_failed(err),
     }
 }
 
 /// Writes `ok` and the end of a line where a source is that of an accepted program.
-pub fn answer_check<W: Write, E: Write>(
+///
+/// Statuses are as in `answer_execution`, but for `Fault`, which doesn't come.
+pub fn answer_check<S: ByteSource, K: ByteSink, E: Write>(
     alloc: Global,
-    source: &[u8],
-    out: &mut W,
+    source: &mut S,
+    out: &mut K,
     err: &mut E,
 ) -> Status
-    ensures { CheckAnswer source.now (W.contents out.old) (W.contents out.new) result }
+    requires source { S.failures source.old < 2 ^ 64 - 1 }
+    requires out { K.failures out.old < 2 ^ 64 - 1 }
+    ensures answer { CheckAnswer (S.rest source.old) (S.rest source.new) (K.written out.old) (K.written out.new) result }
+    ensures devices { S.failures source.new + K.failures out.new ≡ S.failures source.old + K.failures out.old + failed_devices result }
 {
-    match compile(alloc, source) {
+    let bytes = match read_source(alloc, source) {
+        Ok(bytes) => bytes,
+        Err(refusal) => return tell_refusal(err, &refusal),
+    };
+    match compile(alloc, bytes.as_slice()) {
         Ok(_code) => show_text(b"ok\n", out, err),
         Err(refusal) => tell_refusal(err, &refusal),
     }
 }
 
 /// Writes the listing of the code of a source.
-pub fn answer_words<W: Write, E: Write>(
+///
+/// Statuses are as in `answer_check`.
+pub fn answer_words<S: ByteSource, K: ByteSink, E: Write>(
     alloc: Global,
-    source: &[u8],
-    out: &mut W,
+    source: &mut S,
+    out: &mut K,
     err: &mut E,
 ) -> Status
-    ensures { WordsAnswer source.now (W.contents out.old) (W.contents out.new) result }
+    requires source { S.failures source.old < 2 ^ 64 - 1 }
+    requires out { K.failures out.old < 2 ^ 64 - 1 }
+    ensures answer { WordsAnswer (S.rest source.old) (S.rest source.new) (K.written out.old) (K.written out.new) result }
+    ensures devices { S.failures source.new + K.failures out.new ≡ S.failures source.old + K.failures out.old + failed_devices result }
 {
-    let code = match compile(alloc, source) {
+    let bytes = match read_source(alloc, source) {
+        Ok(bytes) => bytes,
+        Err(refusal) => return tell_refusal(err, &refusal),
+    };
+    let code = match compile(alloc, bytes.as_slice()) {
         Ok(code) => code,
         Err(refusal) => return tell_refusal(err, &refusal),
     };
-    match listing(alloc, &code) {
+    match words_listing(alloc, &code) {
+        Ok(text) => show_text(text.as_slice(), out, err),
+        Err(_) => tell_memory(err),
+    }
+}
+
+/// Replays a schedule on a region of a source's run, and writes the listing of its trace.
+///
+/// Statuses are as in `answer_check`; `Refused` comes, in this order, for settings that are out of range, before anything is read, for
+/// what `trace_of` refuses of the source and its input, and for a schedule that names no worker.
+pub fn answer_replay<S: ByteSource, K: ByteSink, E: Write>(
+    alloc: Global,
+    source: &mut S,
+    input: &[i32],
+    asked: &Schedule<'_>,
+    out: &mut K,
+    err: &mut E,
+) -> Status
+    requires source { S.failures source.old < 2 ^ 64 - 1 }
+    requires out { K.failures out.old < 2 ^ 64 - 1 }
+    ensures answer { ReplayAnswer input.now asked.now (S.rest source.old) (S.rest source.new) (K.written out.old) (K.written out.new) result }
+    ensures devices { S.failures source.new + K.failures out.new ≡ S.failures source.old + K.failures out.old + failed_devices result }
+{
+    if !are_in_range(asked.settings) {
+        return tell_refusal(err, &Refusal::Settings);
+    }
+    let bytes = match read_source(alloc, source) {
+        Ok(bytes) => bytes,
+        Err(refusal) => return tell_refusal(err, &refusal),
+    };
+    let trace = match trace_of(alloc, bytes.as_slice(), input, asked) {
+        Ok(trace) => trace,
+        Err(why) => return tell_no_trace(err, why, asked.steps),
+    };
+    match trace_listing(alloc, &trace) {
         Ok(text) => show_text(text.as_slice(), out, err),
         Err(_) => tell_memory(err),
     }

@@ -1,12 +1,13 @@
 // How a command ends, and what is told of it on the error stream.
 
 ghost use Rattle.std.specs.Prelude.{◌≡◌};
-ghost use Rattle.hx_answer.specs.Answers.{ShowsFinish, ShowsText};
-ghost use Rattle.hx_answer.specs.Statuses.{exit_status, status_of_refusal};
+ghost use Rattle.hx_answer.specs.Statuses.{exit_status, status_of_end, status_of_execution, status_of_no_trace, status_of_refusal};
 ghost use Rattle.hx_answer.specs.declared.status.Status.TheVariants as status;
 
-use hx_run::Refusal;
-use hx_tree::outcome::{End, Finish};
+use crate::replaying::NoTrace;
+use hx_run::{Done, Refusal};
+use hx_trace::TraceError;
+use hx_tree::outcome::End;
 use std::io::Write;
 
 /// How a command ends.
@@ -16,7 +17,7 @@ pub enum Status {
     Done,
     /// The program ended by a fault.
     Fault,
-    /// The source, its input, the settings or the command line were refused, or the run isn't over.
+    /// The source, its input, the settings, the schedule or the command line were refused, or the run isn't over.
     Refused,
     /// Memory was refused.
     Memory,
@@ -68,21 +69,18 @@ pub fn tell_memory<E: Write>(err: &mut E) -> Status
     Status::Memory
 }
 
-/// A run that isn't over.
-pub(crate) fn tell_not_ended<E: Write>(err: &mut E, steps: u64) -> Status
+// A run that isn't over.
+fn tell_not_ended<E: Write>(err: &mut E, steps: u64) -> Status
     ensures { result ≡ status.Refused }
 {
     let _ = writeln!(err, "hydra: not ended after {steps} steps");
     Status::Refused
 }
 
-/// A refusal, with its number and, where it has one, its place.
-pub fn tell_refusal<E: Write>(err: &mut E, refusal: &Refusal) -> Status
-    ensures { result ≡ status_of_refusal refusal.now }
+// A number, and where it has one, its place.
+fn tell_number<E: Write>(err: &mut E, refusal: &Refusal) -> Status
+    ensures { result ≡ status.Refused }
 {
-    if refusal.is_memory() {
-        return tell_memory(err);
-    }
     let number = refusal.number();
     let _ = match refusal.pos() {
         Some(pos) => writeln!(err, "hydra: refused {number} at {pos}"),
@@ -91,25 +89,33 @@ pub fn tell_refusal<E: Write>(err: &mut E, refusal: &Refusal) -> Status
     Status::Refused
 }
 
-/// Text for the output.
-pub(crate) fn show_text<W: Write, E: Write>(text: &[u8], out: &mut W, err: &mut E) -> Status
-    ensures { ShowsText text.now (W.contents out.old) (W.contents out.new) result }
+fn tell_device<E: Write>(err: &mut E, refusal: &Refusal) -> Status
+    ensures { result ≡ status.Device }
 {
-    if out.write_all(text).is_err() || out.flush().is_err() {
-        return tell_write_failed(err);
+    match refusal {
+        Refusal::ReadFailed => tell_read_failed(err),
+        _ => tell_write_failed(err),
     }
-    Status::Done
 }
 
-/// The printed text of a run, and its fault, if it ended by one.
-pub(crate) fn show_finish<W: Write, E: Write>(finish: &Finish, out: &mut W, err: &mut E) -> Status
-    ensures { ShowsFinish finish.now (W.contents out.old) (W.contents out.new) result }
+/// A refusal, with its number and, where it has one, its place; want of memory and failed devices have lines of their own.
+pub fn tell_refusal<E: Write>(err: &mut E, refusal: &Refusal) -> Status
+    ensures { result ≡ status_of_refusal refusal.now }
 {
-    let shown = show_text(finish.outcome.text.as_slice(), out, err);
-    if shown != Status::Done {
-        return shown;
+    if refusal.is_memory() {
+        tell_memory(err)
+    } else if refusal.is_of_device() {
+        tell_device(err, refusal)
+    } else {
+        tell_number(err, refusal)
     }
-    match finish.outcome.end {
+}
+
+// The end of a run, which is told where it is a fault.
+fn tell_end<E: Write>(err: &mut E, end: End) -> Status
+    ensures { result ≡ status_of_end end }
+{
+    match end {
         End::Normal(_) => Status::Done,
         End::Fault(fault) => {
             let kind = fault.kind.number();
@@ -117,5 +123,39 @@ pub(crate) fn show_finish<W: Write, E: Write>(finish: &Finish, out: &mut W, err:
             let _ = writeln!(err, "hydra: fault {kind} at {pos}");
             Status::Fault
         }
+    }
+}
+
+// What an execution has come to. `steps` are those that it was given.
+pub(crate) fn tell_execution<E: Write>(
+    err: &mut E,
+    executed: &Result<Done, Refusal>,
+    steps: u64,
+) -> Status
+    ensures { result ≡ status_of_execution executed.now }
+{
+    match executed {
+        Ok(Done::Finished(end)) => tell_end(err, *end),
+        Ok(Done::NotEnded) => tell_not_ended(err, steps),
+        Err(refusal) => tell_refusal(err, refusal),
+    }
+}
+
+// Why there is no trace. `steps` are those that the run to the region's entry was given.
+pub(crate) fn tell_no_trace<E: Write>(err: &mut E, why: NoTrace, steps: u64) -> Status
+    ensures { result ≡ status_of_no_trace why }
+{
+    match why {
+        NoTrace::Refused(refusal) => tell_refusal(err, &refusal),
+        NoTrace::NoEntry => {
+            tell(err, b"hydra: no such region entry\n");
+            Status::Refused
+        }
+        NoTrace::NotEnded => tell_not_ended(err, steps),
+        NoTrace::Schedule(TraceError::NoSuchWorker) => {
+            tell(err, b"hydra: refused 40\n");
+            Status::Refused
+        }
+        NoTrace::Schedule(TraceError::Memory) => tell_memory(err),
     }
 }

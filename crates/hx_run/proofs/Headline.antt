@@ -70,6 +70,8 @@ refuses_run source input code (refusal.Parse e) of h = absurd h
 refuses_run source input code (refusal.Check e) of h = absurd h
 refuses_run source input code (refusal.Lower e) of h = absurd h
 refuses_run source input code refusal.Settings of h = absurd h
+refuses_run source input code refusal.ReadFailed of h = absurd h
+refuses_run source input code refusal.WriteFailed of h = absurd h
 refuses_run source input code refusal.InputText of h = absurd h
 
 -- a refusal of the source is one of the run
@@ -82,6 +84,8 @@ source_refuses_run source input (refusal.Parse e) h = h
 source_refuses_run source input (refusal.Check e) h = h
 source_refuses_run source input (refusal.Lower e) h = h
 source_refuses_run source input refusal.Settings h = h
+source_refuses_run source input refusal.ReadFailed h = h
+source_refuses_run source input refusal.WriteFailed h = h
 source_refuses_run source input refusal.InputText h = h
 
 -- the same of what is answered

@@ -1,4 +1,5 @@
 pub mod Sources
 pub mod Runs
 pub mod Headline
+pub mod Executions
 pub mod Behind

@@ -2,3 +2,4 @@ pub mod Sources
 pub mod Refusals
 pub mod Runs
 pub mod Headline
+pub mod Executions

@@ -13,7 +13,7 @@ use Rattle.hx_word.specs.declared.plain.PlainError.TheVariants as plain
 use Rattle.hx_input.specs.declared.input.InputError.{InputError}
 use Rattle.hx_input.specs.declared.input.InputError.TheVariants as input
 use Rattle.hx_run.specs.declared.refusal.Refusal.{Refusal}
-use Rattle.hx_run.specs.declared.refusal.Refusal.TheVariants.{Lex, Parse, Check, Lower, Pool, Settings, InputTooLong, Memory, InputText}
+use Rattle.hx_run.specs.declared.refusal.Refusal.TheVariants.{Lex, Parse, Check, Lower, Pool, Settings, InputTooLong, Memory, ReadFailed, WriteFailed, InputText}
 use Rattle.hx_input.specs.InputText.{IsInputText}
 use Rattle.hx_run.specs.Sources.{IsSourceOfNone}
 
@@ -26,6 +26,8 @@ number_of Pool = 50
 number_of Settings = 60
 number_of InputTooLong = 61
 number_of Memory = 62
+number_of ReadFailed = 63
+number_of WriteFailed = 64
 number_of InputText = 65
 
 abbrev pub pos_of : Refusal → Option Pos
@@ -37,6 +39,8 @@ pos_of Pool = None
 pos_of Settings = None
 pos_of InputTooLong = None
 pos_of Memory = None
+pos_of ReadFailed = None
+pos_of WriteFailed = None
 pos_of InputText = None
 
 abbrev pub is_memory : Refusal → Bool
@@ -47,6 +51,11 @@ is_memory (Lower lower.Memory) = true
 is_memory Pool = true
 is_memory Memory = true
 is_memory _ = false
+
+abbrev pub is_of_device : Refusal → Bool
+is_of_device ReadFailed = true
+is_of_device WriteFailed = true
+is_of_device _ = false
 
 -- a refusal of a source: memory says nothing of it, and any other means that it is the source of no accepted program
 abbrev pub RefusesSource : List ℕ → Refusal → Type 0

@@ -2,7 +2,9 @@
 //! contracts of the stages; `specs/Headline.antt` says what a finish promises.
 #![tactic(auto)]
 
+mod executing;
 mod passing;
+mod reading;
 mod refusal;
 mod running;
 mod source;
@@ -10,7 +12,9 @@ mod source;
 mod tests;
 mod texts;
 
+pub use executing::{Done, Mode, execute, execute_plain};
 pub use hx_pool::{Call, Gate, Point, Unwatched};
+pub use reading::read_source;
 pub use refusal::Refusal;
 pub use running::{PlainRan, are_in_range, run, run_plain};
 pub use source::compile;

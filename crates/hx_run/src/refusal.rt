@@ -1,10 +1,12 @@
 // Why a source isn't run.
 
 ghost use Rattle.std.specs.Prelude.{◌≡◌};
-ghost use Rattle.hx_run.specs.Refusals.{is_memory, number_of, pos_of, refusal_of_input, refusal_of_plain};
+ghost use Rattle.hx_run.specs.Refusals.{is_memory, is_of_device, number_of, pos_of, refusal_of_input, refusal_of_plain};
+ghost use Rattle.hx_run.specs.Executions.{refusal_of_reading};
 ghost use Rattle.hx_run.specs.declared.refusal.Refusal.TheVariants as refusal;
 
 use hx_check::error::CheckError;
+use hx_device::ReadError;
 use hx_input::InputError;
 use hx_lex::LexError;
 use hx_lower::LowerError;
@@ -41,6 +43,12 @@ pub enum Refusal {
     /// 62: no memory for the run.
     #[error("out of memory")]
     Memory,
+    /// 63: a read of the source failed.
+    #[error("read failed")]
+    ReadFailed,
+    /// 64: a write failed.
+    #[error("write failed")]
+    WriteFailed,
     /// 65: an input text that spells no list of numbers.
     #[error("no input text")]
     InputText,
@@ -60,6 +68,8 @@ impl Refusal {
             Refusal::Settings => 60,
             Refusal::InputTooLong => 61,
             Refusal::Memory => 62,
+            Refusal::ReadFailed => 63,
+            Refusal::WriteFailed => 64,
             Refusal::InputText => 65,
         }
     }
@@ -74,6 +84,13 @@ impl Refusal {
             Refusal::Check(e) => e.pos(),
             _ => None,
         }
+    }
+
+    /// Whether a device failed: 63 or 64.
+    pub fn is_of_device(&self) -> bool
+        ensures { result ≡ is_of_device self.now }
+    {
+        matches!(self, Refusal::ReadFailed | Refusal::WriteFailed)
     }
 
     /// Whether memory was refused: 6, 12, 27, 30, 50 or 62.
@@ -152,6 +169,17 @@ impl From<InputError> for Refusal {
         match e {
             InputError::BadText => Refusal::InputText,
             InputError::Memory => Refusal::Memory,
+        }
+    }
+}
+
+impl From<ReadError> for Refusal {
+    ghost from_gives = { λ e r. r ≡ refusal_of_reading e };
+
+    fn from(e: ReadError) -> Refusal {
+        match e {
+            ReadError::Failed => Refusal::ReadFailed,
+            ReadError::Memory => Refusal::Memory,
         }
     }
 }

@@ -109,6 +109,21 @@ pub fn run<R: Threads + Wait + Sync, G: Gate>(
     if !are_in_range(settings) {
         return Err(Refusal::Settings);
     }
+    run_in_range(alloc, rt, source, input, settings, gate)
+}
+
+/// `run`, where the settings were tested.
+pub(crate) fn run_in_range<R: Threads + Wait + Sync, G: Gate>(
+    alloc: Global,
+    rt: &R,
+    source: &[u8],
+    input: &[i32],
+    settings: Settings,
+    gate: &G,
+) -> Result<Finish, Refusal>
+    ensures finish { IfOk result (IsFinishOf source.now input.now) }
+    ensures refused { IfErr result (RefusesRun source.now input.now) }
+{
     let code = compile(alloc, source)?;
     run_code(alloc, rt, &code, input, settings, gate)
 }

@@ -2,6 +2,7 @@
 
 mod checking;
 mod codes;
+mod executing;
 mod forms;
 mod frames;
 mod inputs;

@@ -2,6 +2,7 @@
 #![tactic(auto)]
 
 mod command;
+mod commands;
 mod files;
 mod request;
 #[cfg(test)]

@@ -1,5 +1,8 @@
 // Whole commands, on files that each test writes for itself.
 
+mod replaying;
+mod reporting;
+
 use crate::command::command;
 use std::io::Write;
 use std::process::Abort;
@@ -11,13 +14,13 @@ use std::{fs, io};
 
 // What a command wrote, and its status.
 #[derive(Drop)]
-struct Shown {
+pub(crate) struct Shown {
     out: Vec<u8>,
     err: Vec<u8>,
     status: u8,
 }
 
-fn done_by<R: Files + AllocGlobal + Threads + Wait + Sync>(rt: &R, words: &[&str]) -> Shown {
+pub(crate) fn done_by<R: Files + AllocGlobal + Threads + Wait + Sync>(rt: &R, words: &[&str]) -> Shown {
     let mut out = Vec::new(rt.alloc());
     let mut err = Vec::new(rt.alloc());
     let status = command(rt, words, &mut out, &mut err);
@@ -37,14 +40,14 @@ fn on_source<R: Files + AllocGlobal + Threads + Wait + Sync>(
     Ok(found)
 }
 
-fn expect(rt: &impl Abort, found: &Shown, out: &[u8], err: &[u8], status: u8) {
+pub(crate) fn expect(rt: &impl Abort, found: &Shown, out: &[u8], err: &[u8], status: u8) {
     assert_eq!(rt; found.out.as_slice(), out);
     assert_eq!(rt; found.err.as_slice(), err);
     assert_eq!(rt; found.status, status);
 }
 
 // That a command on a file of this source writes this and ends with this status.
-fn shows<R: Abort + Files + AllocGlobal + Threads + Wait + Sync>(
+pub(crate) fn shows<R: Abort + Files + AllocGlobal + Threads + Wait + Sync>(
     rt: &R,
     path: &str,
     source: &[u8],
@@ -60,11 +63,11 @@ fn shows<R: Abort + Files + AllocGlobal + Threads + Wait + Sync>(
 
 const COUNT: &[u8] = b"int c; int main(){ pwhile(c<3){ print(c); c=c+1; } }";
 
-const TWO_TURNS: &[u8] = b"int c; int main(){ pwhile(c<2){ c=c+1; } }";
+pub(crate) const TWO_TURNS: &[u8] = b"int c; int main(){ pwhile(c<2){ c=c+1; } }";
 
-const PAST_THE_END: &[u8] = b"int a[4]; int main(){ pfor(int i=0;i<8;i++){ a[i]=i+1; print(i);} }";
+pub(crate) const PAST_THE_END: &[u8] = b"int a[4]; int main(){ pfor(int i=0;i<8;i++){ a[i]=i+1; print(i);} }";
 
-const SUM: &[u8] =
+pub(crate) const SUM: &[u8] =
     b"int in[3]; int n_in; int main(){ int s=0; pfor(int i=0;i<n_in;i++) s+=in[i]; print(s); return s; }";
 
 #[test]
@@ -221,13 +224,25 @@ fn reads_command_lines(rt: HostRuntime) {
     assert_eq!(&rt; help.status, 0);
     let absent = done_by(&rt, &["hydra", "run", "no-such-file", "--workers", "0"]);
     expect(&rt, &absent, b"", b"hydra: read failed\n", 4);
-    let wrong: [&[&str]; 6] = [
+}
+
+#[test]
+fn refuses_command_lines(rt: HostRuntime) {
+    let wrong: [&[&str]; 14] = [
         &["hydra"],
         &["hydra", "run"],
         &["hydra", "leap", "x"],
+        &["hydra", "replay", "x"],
         &["hydra", "run", "x", "--workers", "two"],
         &["hydra", "run", "x", "--workers", "4294967296"],
+        &["hydra", "replay", "x", "0", "--entry", "first"],
+        &["hydra", "plain", "x", "--steps", "18446744073709551616"],
+        &["hydra", "run", "x", "--steps", "1"],
+        &["hydra", "plain", "x", "--workers", "1"],
+        &["hydra", "run", "x", "--entry", "1"],
+        &["hydra", "replay", "x", "0", "--stats"],
         &["hydra", "check", "x", "--steps", "1"],
+        &["hydra", "words", "x", "--input", "y"],
     ];
     for words in wrong {
         let found = done_by(&rt, words);

@@ -1,5 +1,5 @@
 use Rattle.hx_run.proofs.Headline.{finish_if_ok}
-use Rattle.hx_run.proofs.running.run.Goals as goal
+use Rattle.hx_run.proofs.running.run_in_range.Goals as goal
 
 pub returns-clause-finish : goal.returns-clause-finish
 returns-clause-finish g c =

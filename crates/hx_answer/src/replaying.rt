@@ -1,0 +1,170 @@
+// A schedule that is replayed on a region of a source's run.
+
+ghost use Rattle.std.specs.Prelude.{◌≡◌, ◌↔◌, All, map, IfOk, IfErr, IsTrue};
+ghost use Rattle.hx_word.specs.Entry.{EntryFits};
+ghost use Rattle.hx_answer.specs.Replays.{digit, IsFrom, IsReplayOf, IsWorker, Reaches, RefusesEntry, RefusesReplay, RefusesWorkers};
+ghost use Rattle.hx_answer.specs.declared.replaying.NoTrace.TheVariants as no_trace;
+ghost use Rattle.hx_word.specs.declared.plain.Reached.TheVariants as reached;
+
+use hx_code::code::Code;
+use hx_frame::Capacities;
+use hx_run::{Refusal, compile};
+use hx_trace::{Trace, TraceError, replay};
+use hx_tree::outcome::Settings;
+use hx_word::entry::Entry;
+use hx_word::plain::{Plain, Reached};
+use std::alloc::{AllocError, Global};
+use thiserror::Error;
+
+/// A schedule, and the region that it is for.
+#[derive(Clone, Copy, Debug)]
+pub struct Schedule<'a> {
+    /// Which of the regions that the run opens, counted from 1.
+    pub nth: u64,
+    /// How many words the run to the region may have.
+    pub steps: u64,
+    /// How many workers there are, and how much their tables hold.
+    pub settings: Settings,
+    /// A digit for each entry, the number of its worker.
+    pub digits: &'a [u8],
+}
+
+/// Why there is no trace.
+#[derive(Clone, Copy, PartialEq, Eq, Debug, Error)]
+pub enum NoTrace {
+    /// The source or its input is refused, or memory was.
+    #[error(transparent)]
+    Refused(Refusal),
+    /// The run ends before it opens so many regions.
+    #[error("no such region entry")]
+    NoEntry,
+    /// It doesn't come to the region within its steps.
+    #[error("not ended")]
+    NotEnded,
+    /// 40 or 41.
+    #[error(transparent)]
+    Schedule(TraceError),
+}
+
+impl From<Refusal> for NoTrace {
+    ghost from_gives = { λ e r. r ≡ no_trace.Refused e };
+
+    fn from(e: Refusal) -> NoTrace {
+        NoTrace::Refused(e)
+    }
+}
+
+impl From<TraceError> for NoTrace {
+    ghost from_gives = { λ e r. r ≡ no_trace.Schedule e };
+
+    fn from(e: TraceError) -> NoTrace {
+        NoTrace::Schedule(e)
+    }
+}
+
+// The region and its entry.
+fn reach(
+    alloc: Global,
+    code: &Code,
+    input: &[i32],
+    nth: u64,
+    steps: u64,
+) -> Result<(u32, Entry), NoTrace>
+    ensures reached { IfOk result (λ r. Reaches code.now input.now nth steps (reached.At r.0 r.1)) }
+    ensures refused { IfErr result (RefusesEntry code.now input.now nth steps) }
+{
+    let plain = match Plain::new(alloc, code, input) {
+        Ok(plain) => plain,
+        Err(e) => return Err(NoTrace::Refused(Refusal::from(e))),
+    };
+    if nth == 0 {
+        return Err(NoTrace::NoEntry);
+    }
+    match plain.entry_at(alloc, nth, steps) {
+        Ok(Reached::At(region, entry)) => Ok((region, entry)),
+        Ok(Reached::Ended) => Err(NoTrace::NoEntry),
+        Ok(Reached::More) => Err(NoTrace::NotEnded),
+        Err(_) => Err(NoTrace::Refused(Refusal::Memory)),
+    }
+}
+
+// Whether each byte is the digit of one of so many workers.
+fn are_workers(digits: &[u8], workers: u32) -> bool
+    ensures { IsTrue result ↔ All (IsWorker workers) digits.now }
+{
+    digits
+        .iter()
+        .all(|byte| *byte >= b'0' && *byte <= b'9' && u32::from(*byte - b'0') < workers)
+}
+
+// The numbers of digits.
+fn numbers_of(alloc: Global, digits: &[u8]) -> Result<Vec<u8>, AllocError>
+    ensures { IfOk result (λ v. v.items ≡ map digit digits.now) }
+{
+    let mut numbers = Vec::with_capacity(alloc, digits.len())?;
+    for byte in digits {
+        numbers.push(byte.saturating_sub(b'0'))?;
+    }
+    Ok(numbers)
+}
+
+// The trace of a schedule from a region's entry.
+fn trace_from(
+    alloc: Global,
+    code: &Code,
+    region: u32,
+    entry: &Entry,
+    settings: Settings,
+    digits: &[u8],
+) -> Result<Trace, TraceError>
+    requires { EntryFits code.now region entry.now }
+    ensures told { IfOk result (IsFrom code.now region entry.now settings digits.now) }
+    ensures refused { IfErr result (RefusesWorkers settings digits.now) }
+{
+    if !are_workers(digits, settings.workers) {
+        return Err(TraceError::NoSuchWorker);
+    }
+    let Ok(schedule) = numbers_of(alloc, digits) else {
+        return Err(TraceError::Memory);
+    };
+    let capacities = Capacities {
+        marks: settings.marks,
+        buffer: settings.buffer,
+    };
+    let slots = settings.workers;
+    replay(
+        alloc,
+        code,
+        region,
+        entry,
+        slots,
+        capacities,
+        schedule.as_slice(),
+    )
+}
+
+/// Replays a schedule on a region of the run of a source on an input.
+///
+/// An `Ok` is the trace of the schedule from the region's entry, as `hx_trace::replay` promises it. Refusals, in this order: those of
+/// `hx_run::compile`; 61; `NoEntry` and `NotEnded`; 40 where a byte of the schedule is no worker's digit. 41 and the other refusals for
+/// want of memory say nothing. The settings are looked at no further than that.
+pub fn trace_of(
+    alloc: Global,
+    source: &[u8],
+    input: &[i32],
+    asked: &Schedule<'_>,
+) -> Result<Trace, NoTrace>
+    ensures told { IfOk result (IsReplayOf source.now input.now asked.now) }
+    ensures refused { IfErr result (RefusesReplay source.now input.now asked.now) }
+{
+    let code = compile(alloc, source)?;
+    let (region, entry) = reach(alloc, &code, input, asked.nth, asked.steps)?;
+    Ok(trace_from(
+        alloc,
+        &code,
+        region,
+        &entry,
+        asked.settings,
+        asked.digits,
+    )?)
+}
