@@ -120,7 +120,7 @@ fn execute_run<R: Threads + Wait + Sync, S: ByteSource, K: ByteSink, G: Gate>(
     ensures writes { K.failures out.new ≡ K.failures out.old + failed_writes result }
 {
     let bytes = read_source(alloc, source)?;
-    let finish = run_in_range(alloc, rt, bytes.as_slice(), input, settings, gate)?;
+    let finish = run_in_range(alloc, rt, bytes.as_slice(), input, settings, None, gate)?;
     show(alloc, &finish, stats, out)
 }
 

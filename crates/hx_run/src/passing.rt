@@ -6,7 +6,7 @@ ghost use Rattle.hx_run.specs.Runs.{IsBehind, IsMemory};
 use crate::refusal::Refusal;
 use hx_board::Job;
 use hx_code::code::Code;
-use hx_pool::{Gate, run_region};
+use hx_pool::{Gate, run_region_on};
 use hx_tree::outcome::{Counts, Settings};
 use hx_word::plain::{Open, Plain};
 use std::alloc::Global;
@@ -53,13 +53,15 @@ pub(crate) fn counted(plain: Counts, loops: Counts) -> Counts
     }
 }
 
-/// Runs a marked loop that has opened, to its end: the machine behind it, and what the loop has counted.
+/// Runs a marked loop that has opened, to its end: the machine behind it, and what the loop has counted. Its threads have stacks of so
+/// many bytes, where that is told.
 pub(crate) fn pass_region<'c, R: Threads + Wait + Sync, G: Gate>(
     alloc: Global,
     rt: &R,
     code: &'c Code,
     entered: Open<'c>,
     settings: Settings,
+    stack: Option<usize>,
     gate: &G,
 ) -> Result<(Plain<'c>, Counts), Refusal>
     requires { entered.code ≡ code.now }
@@ -74,7 +76,7 @@ pub(crate) fn pass_region<'c, R: Threads + Wait + Sync, G: Gate>(
         code,
         region: entered.region(),
     };
-    let end = run_region(rt, alloc, &job, entry, settings, gate)?;
+    let end = run_region_on(rt, alloc, &job, entry, settings, stack, gate)?;
     let counts = end.counts;
     Ok((entered.resume(&end), counts))
 }

@@ -27,6 +27,7 @@ fn run_code<R: Threads + Wait + Sync, G: Gate>(
     code: &Code,
     input: &[i32],
     settings: Settings,
+    stack: Option<usize>,
     gate: &G,
 ) -> Result<Finish, Refusal>
     ensures ended { IfOk result (EndsSo code.now input.now) }
@@ -43,7 +44,7 @@ fn run_code<R: Threads + Wait + Sync, G: Gate>(
             }
             Paused::More(more) => plain = more,
             Paused::At(open) => {
-                let (behind, counts) = pass_region(alloc, rt, code, open, settings, gate)?;
+                let (behind, counts) = pass_region(alloc, rt, code, open, settings, stack, gate)?;
                 loops = add_up(loops, counts);
                 plain = behind;
             }
@@ -109,23 +110,24 @@ pub fn run<R: Threads + Wait + Sync, G: Gate>(
     if !are_in_range(settings) {
         return Err(Refusal::Settings);
     }
-    run_in_range(alloc, rt, source, input, settings, gate)
+    run_in_range(alloc, rt, source, input, settings, None, gate)
 }
 
-/// `run`, where the settings were tested.
+/// `run`, where the settings were tested, with stacks of so many bytes for its threads, where that is told.
 pub(crate) fn run_in_range<R: Threads + Wait + Sync, G: Gate>(
     alloc: Global,
     rt: &R,
     source: &[u8],
     input: &[i32],
     settings: Settings,
+    stack: Option<usize>,
     gate: &G,
 ) -> Result<Finish, Refusal>
     ensures finish { IfOk result (IsFinishOf source.now input.now) }
     ensures refused { IfErr result (RefusesRun source.now input.now) }
 {
     let code = compile(alloc, source)?;
-    run_code(alloc, rt, &code, input, settings, gate)
+    run_code(alloc, rt, &code, input, settings, stack, gate)
 }
 
 /// Runs the program of a source on an input, for at most so many words of its code on one thread.

@@ -3,6 +3,7 @@
 mod checking;
 mod codes;
 mod executing;
+mod fakes;
 mod forms;
 mod frames;
 mod inputs;

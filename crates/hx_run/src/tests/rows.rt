@@ -368,7 +368,7 @@ fn numbers_are_printed_whole(rt: HostRuntime) {
 }
 
 // `int main(){ print(1); }` with so many pairs of parentheses round the 1.
-fn in_parentheses(alloc: Global, pairs: usize) -> Result<Vec<u8>, Fail> {
+pub(super) fn in_parentheses(alloc: Global, pairs: usize) -> Result<Vec<u8>, Fail> {
     let mut source = Vec::from_slice(alloc, b"int main(){ print(")?;
     let opening = vec![in alloc; b'('; pairs]?;
     source.extend_from_slice(opening.as_slice())?;

@@ -1,5 +1,7 @@
 // Worked programs on several workers, with tables that hold much and with tables that hold a word.
 
+use crate::running::run_in_range;
+use crate::tests::rows::in_parentheses;
 use crate::{Unwatched, run};
 use hx_tree::limits::TEXT_LIMIT;
 use hx_tree::outcome::{End, Fault, FaultKind, Finish, Settings};
@@ -7,6 +9,7 @@ use hx_tree::token::Pos;
 use std::alloc::Global;
 use std::process::Abort;
 use std::sync::Wait;
+use std::test::Fail;
 use std::thread::Threads;
 
 // A program, and what it comes to.
@@ -73,9 +76,32 @@ fn all_hold<R: Abort + Threads + Wait + Sync>(rt: &R, alloc: Global, rows: &[Row
     }
 }
 
-#[test]
-fn loops_on_workers(rt: HostRuntime) {
-    let rows = [
+// No thread has a stack of so many bytes, so none starts, and the caller does all iterations.
+fn all_hold_alone<R: Abort + Threads + Wait + Sync>(rt: &R, alloc: Global, rows: &[Row<'_>]) {
+    let settings = Settings {
+        workers: 4,
+        marks: 512,
+        buffer: 64,
+    };
+    for row in rows {
+        match run_in_range(
+            alloc,
+            rt,
+            row.source,
+            row.input,
+            settings,
+            Some(1 << 60),
+            &Unwatched,
+        ) {
+            Ok(finish) => is_of(rt, *row, &finish),
+            Err(_) => assert!(rt; false),
+        }
+    }
+}
+
+// Loops whose turns need nothing, or little, of one another.
+fn loop_rows<'a>() -> [Row<'a>; 5] {
+    [
         normal(
             b"int a[8]; int main(){ pfor(int i=0;i<8;i++) a[i]=i*i; print(a[7]); }",
             b"49\n",
@@ -106,8 +132,31 @@ fn loops_on_workers(rt: HostRuntime) {
             &[2],
             2,
         ),
-    ];
-    all_hold(&rt, rt.alloc(), rows.as_slice());
+    ]
+}
+
+// A loop that ends by a fault in its fifth turn.
+fn fault_row<'a>() -> Row<'a> {
+    Row {
+        source: b"int a[4]; int main(){ pfor(int i=0;i<8;i++){ a[i]=i+1; print(i);} }",
+        input: &[],
+        text: b"0\n1\n2\n3\n",
+        globals: &[1, 2, 3, 4],
+        end: fault(FaultKind::IndexOutOfRange, 1, 46),
+        turns: 4,
+    }
+}
+
+#[test]
+fn loops_on_workers(rt: HostRuntime) {
+    all_hold(&rt, rt.alloc(), loop_rows().as_slice());
+    all_hold(&rt, rt.alloc(), [fault_row()].as_slice());
+}
+
+#[test]
+fn no_thread_starts(rt: HostRuntime) {
+    all_hold_alone(&rt, rt.alloc(), loop_rows().as_slice());
+    all_hold_alone(&rt, rt.alloc(), [fault_row()].as_slice());
 }
 
 #[test]
@@ -151,14 +200,6 @@ fn turns_that_need_each_other(rt: HostRuntime) {
 fn faults_and_ends_on_workers(rt: HostRuntime) {
     let rows = [
         Row {
-            source: b"int a[4]; int main(){ pfor(int i=0;i<8;i++){ a[i]=i+1; print(i);} }",
-            input: &[],
-            text: b"0\n1\n2\n3\n",
-            globals: &[1, 2, 3, 4],
-            end: fault(FaultKind::IndexOutOfRange, 1, 46),
-            turns: 4,
-        },
-        Row {
             source: b"int a[2]; int main(){ pfor(int i=0;i<3;i++){ a[0]=i; print(i); a[1]=1/(1-i); } }",
             input: &[],
             text: b"0\n1\n",
@@ -184,6 +225,63 @@ fn faults_and_ends_on_workers(rt: HostRuntime) {
         },
     ];
     all_hold(&rt, rt.alloc(), rows.as_slice());
+}
+
+#[test]
+fn programs_without_loops(rt: HostRuntime) -> Result<(), Fail> {
+    let rows = [
+        normal(
+            b"int main(){ print((-2147483647-1)/(-1)); print((-2147483647-1)%(-1)); print(2147483647+1); print(-7/2); print(-7%2); print(1<<33); }",
+            b"-2147483648\n0\n-2147483648\n-3\n-1\n2\n",
+            &[],
+            0,
+        ),
+        normal(
+            b"int main(){ emit(65); emit(266); emit(-1); }",
+            &[0x41, 0x0a, 0xff],
+            &[],
+            0,
+        ),
+    ];
+    all_hold(&rt, rt.alloc(), rows.as_slice());
+    let highest = in_parentheses(rt.alloc(), 195)?;
+    all_hold(
+        &rt,
+        rt.alloc(),
+        [normal(highest.as_slice(), b"1\n", &[], 0)].as_slice(),
+    );
+    Ok(())
+}
+
+fn refused_by_all<R: Abort + Threads + Wait + Sync>(
+    rt: &R,
+    alloc: Global,
+    source: &[u8],
+    number: u32,
+) {
+    for workers in [1, 2, 4, 8] {
+        let settings = Settings {
+            workers,
+            marks: 512,
+            buffer: 64,
+        };
+        match run(alloc, rt, source, &[], settings, &Unwatched) {
+            Ok(_) => assert!(rt; false),
+            Err(refusal) => assert_eq!(rt; refusal.number(), number),
+        }
+    }
+}
+
+#[test]
+fn sources_are_refused_on_workers(rt: HostRuntime) -> Result<(), Fail> {
+    let alloc = rt.alloc();
+    refused_by_all(&rt, alloc, b"", 25);
+    refused_by_all(&rt, alloc, b"/* x", 3);
+    refused_by_all(&rt, alloc, b"int x; int x; int main(){}", 21);
+    refused_by_all(&rt, alloc, b"int main(){ int x=08; }", 2);
+    let higher = in_parentheses(alloc, 196)?;
+    refused_by_all(&rt, alloc, higher.as_slice(), 11);
+    Ok(())
 }
 
 // A text that comes to its limit: so many bytes, and the fault of one more.

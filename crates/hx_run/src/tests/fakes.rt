@@ -1,0 +1,247 @@
+// Workers on one thread, over a board that answers what it shouldn't.
+
+ghost use Rattle.std.specs.Prelude.{◌≡◌, ◌<◌};
+ghost use Rattle.hx_board.specs.Board.{Setup};
+ghost use Rattle.hx_word.specs.Entry.{EntryFits};
+ghost use Rattle.hx_pool.specs.Setups.{setup_by};
+
+use crate::compile;
+use hx_board::{Alive, Board, Head, Headed, Job, Loaded, Settled, Started, State, Stored};
+use hx_code::code::Code;
+use hx_frame::{Capacities, Frame};
+use hx_pool::{Shared, Unwatched, work};
+use hx_word::entry::Entry;
+use hx_word::plain::{Plain, Reached};
+use std::alloc::Global;
+use std::marker::{Brand, PhantomData};
+use std::sync::atomic::{AtomicU64, Ordering};
+use std::sync::{Mutex, Wait};
+use std::test::Fail;
+
+/// What a fake's board was made for.
+trait Made {
+    ghost setup: { Setup };
+}
+
+impl Made for Brand {
+    ghost use Rattle.hx_pool.specs.Setups.{no_setup};
+
+    ghost setup = { no_setup };
+}
+
+#[derive(Drop)]
+struct Kept<'c, M: Made> {
+    board: Board<'c>,
+    made: PhantomData<M>,
+    ghost is_own: { board.setup ≡ M.setup },
+}
+
+/// What is answered in the board's place.
+#[derive(Clone, Copy, PartialEq, Eq, Debug)]
+enum Lie {
+    Squashed,
+    Full,
+    NotYet,
+    Ended,
+}
+
+/// A board that answers truly, but for one call.
+#[derive(Drop)]
+struct Fake<'c, M: Made> {
+    board: Mutex<Kept<'c, M>>,
+    calls: AtomicU64,
+    at: u64,
+    lie: Lie,
+}
+
+impl<M: Made> Fake<'_, M> {
+    // What this call answers, where that isn't the board's answer.
+    fn lie(&self) -> Option<Lie> {
+        if self.calls.fetch_add(1, Ordering::SeqCst) == self.at {
+            Some(self.lie)
+        } else {
+            None
+        }
+    }
+}
+
+impl<M: Made> Shared for Fake<'_, M> {
+    ghost setup = { M.setup };
+
+    fn start(&self, rt: &impl Wait, worker: u32, frame: &mut Frame<'_>) -> Started {
+        match self.lie() {
+            Some(Lie::Ended) => return Started::Ended,
+            Some(Lie::Squashed) => return Started::NotThisFrame,
+            _ => {}
+        }
+        let mut guard = self.board.lock(rt);
+        let kept: &mut Kept<'_, M> = &mut guard;
+        kept.board.start_own(worker, frame)
+    }
+
+    fn load(&self, rt: &impl Wait, worker: u32, attempt: u64, word: u32) -> Loaded {
+        match self.lie() {
+            Some(Lie::Ended) => return Loaded::Ended,
+            Some(Lie::Squashed) => return Loaded::Squashed,
+            Some(Lie::Full) => return Loaded::Full,
+            _ => {}
+        }
+        let mut guard = self.board.lock(rt);
+        let kept: &mut Kept<'_, M> = &mut guard;
+        kept.board.known();
+        kept.board.load(worker, attempt, word)
+    }
+
+    fn store(&self, rt: &impl Wait, worker: u32, attempt: u64, word: u32, value: i32) -> Stored {
+        match self.lie() {
+            Some(Lie::Ended) => return Stored::Ended,
+            Some(Lie::Squashed) => return Stored::Squashed,
+            Some(Lie::Full) => return Stored::Full,
+            _ => {}
+        }
+        let mut guard = self.board.lock(rt);
+        let kept: &mut Kept<'_, M> = &mut guard;
+        kept.board.known();
+        kept.board.store(worker, attempt, word, value)
+    }
+
+    fn head(&self, rt: &impl Wait, worker: u32, attempt: u64) -> Headed {
+        match self.lie() {
+            Some(Lie::Ended) => return Headed::Ended,
+            Some(Lie::Squashed) => return Headed::Squashed,
+            Some(Lie::NotYet) => return Headed::NotYet,
+            _ => {}
+        }
+        let mut guard = self.board.lock(rt);
+        let kept: &mut Kept<'_, M> = &mut guard;
+        kept.board.head(worker, attempt)
+    }
+
+    fn alive(&self, rt: &impl Wait, worker: u32, attempt: u64) -> Alive {
+        match self.lie() {
+            Some(Lie::Ended) => return Alive::Ended,
+            Some(Lie::Squashed) => return Alive::Squashed,
+            _ => {}
+        }
+        let guard = self.board.lock(rt);
+        let kept: &Kept<'_, M> = &guard;
+        kept.board.alive(worker, attempt)
+    }
+
+    fn settle(&self, rt: &impl Wait, head: Head, frame: &mut Frame<'_>) -> Settled {
+        let mut guard = self.board.lock(rt);
+        let kept: &mut Kept<'_, M> = &mut guard;
+        kept.board.settle_own(head, frame)
+    }
+
+    fn abandon(&self, rt: &impl Wait, worker: u32) {
+        let mut guard = self.board.lock(rt);
+        let kept: &mut Kept<'_, M> = &mut guard;
+        kept.board.abandon(worker);
+    }
+}
+
+// What is committed of the first word, and whether the region is left.
+type Shown = (i32, bool);
+
+const ROOMS: Capacities = Capacities {
+    marks: 512,
+    buffer: 64,
+};
+
+fn shown_of(board: &Board<'_>) -> Result<Shown, Fail> {
+    let (store, _text, state) = board.settled();
+    match store.first() {
+        Some(word) => Ok((*word, state == State::Left)),
+        None => Err(Fail::from("a store is wanted")),
+    }
+}
+
+// A worker by itself, over a board that lies at one call.
+fn works_over<M: Made + Send + Sync, W: Wait>(
+    rt: &W,
+    alloc: Global,
+    job: Job<'_>,
+    entry: &Entry,
+    at: u64,
+    lie: Lie,
+) -> Result<Shown, Fail>
+    requires fits { EntryFits job.entry.code.now job.entry.region entry.now }
+    requires own { setup_by job.entry.code.now job.entry.region entry.now 1 ROOMS ≡ M.setup }
+{
+    let code = job.code;
+    let board = Board::new(alloc, job, entry, 1, ROOMS)?;
+    let mut frame = Frame::new(alloc, code, ROOMS)?;
+    let fake: Fake<'_, M> = Fake {
+        board: Mutex::new(Kept {
+            board,
+            made: PhantomData,
+        }),
+        calls: AtomicU64::new(0),
+        at,
+        lie,
+    };
+    work(rt, 0, &fake, &mut frame, &Unwatched);
+    let Fake { board, .. } = fake;
+    let Kept { board, made: _ } = board.into_inner();
+    shown_of(&board)
+}
+
+// The only region of a code, at its first opening.
+fn works_to_the_end<W: Wait>(
+    rt: &W,
+    alloc: Global,
+    code: &Code,
+    at: u64,
+    lie: Lie,
+) -> Result<Shown, Fail> {
+    let Ok(plain) = Plain::new(alloc, code, &[]) else {
+        return Err(Fail::from("no machine"));
+    };
+    match plain.entry_at(alloc, 1, 1024)? {
+        Reached::At(region, entry) => {
+            works_over::<Brand, W>(rt, alloc, Job { code, region }, &entry, at, lie)
+        }
+        Reached::Ended | Reached::More => Err(Fail::from("a region is wanted")),
+    }
+}
+
+fn two_turns(alloc: Global) -> Result<Code, Fail> {
+    match compile(alloc, b"int c; int main(){ pwhile(c<2){ c=c+1; } }") {
+        Ok(code) => Ok(code),
+        Err(_) => Err(Fail::from("refused")),
+    }
+}
+
+// Sixteen calls come to the end, since one worker's eleventh and last load is answered by its own mark; a call past them is none.
+#[test]
+fn a_true_board_is_worked_to_its_end(rt: HostRuntime) -> Result<(), Fail> {
+    let code = two_turns(rt.alloc())?;
+    assert_eq!(&rt; works_to_the_end(&rt, rt.alloc(), &code, 1000, Lie::Ended)?, (2, true));
+    Ok(())
+}
+
+// A worker that is told once that it is squashed, or is to wait, comes to the same end.
+#[test]
+fn a_lie_loses_no_turn(rt: HostRuntime) -> Result<(), Fail> {
+    let code = two_turns(rt.alloc())?;
+    for at in 0..20 {
+        for lie in [Lie::Full, Lie::NotYet] {
+            assert_eq!(&rt; works_to_the_end(&rt, rt.alloc(), &code, at, lie)?, (2, true));
+        }
+    }
+    Ok(())
+}
+
+// Told that the region has ended, a worker stops, and what is committed by then is some whole turns of one thread.
+#[test]
+fn a_worker_that_stops_leaves_whole_turns(rt: HostRuntime) -> Result<(), Fail> {
+    let code = two_turns(rt.alloc())?;
+    for at in 0..20 {
+        for lie in [Lie::Squashed, Lie::Ended] {
+            let (word, is_left) = works_to_the_end(&rt, rt.alloc(), &code, at, lie)?;
+            assert!(&rt; word == 2 || word < 2 && !is_left);
+        }
+    }
+    Ok(())
+}
