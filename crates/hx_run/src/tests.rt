@@ -1,5 +1,6 @@
 // Tests of whole runs.
 
+mod boards;
 mod checking;
 mod codes;
 mod executing;

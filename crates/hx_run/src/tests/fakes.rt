@@ -11,7 +11,7 @@ use hx_code::code::Code;
 use hx_frame::{Capacities, Frame};
 use hx_pool::{Shared, Unwatched, work};
 use hx_word::entry::Entry;
-use hx_word::plain::{Plain, Reached};
+use hx_word::plain::{Open, Paused, Plain};
 use std::alloc::Global;
 use std::marker::{Brand, PhantomData};
 use std::sync::atomic::{AtomicU64, Ordering};
@@ -187,7 +187,26 @@ fn works_over<M: Made + Send + Sync, W: Wait>(
     shown_of(&board)
 }
 
-// The only region of a code, at its first opening.
+// The same at a region that has opened.
+fn works_at<W: Wait>(
+    rt: &W,
+    alloc: Global,
+    code: &Code,
+    opened: &Open<'_>,
+    at: u64,
+    lie: Lie,
+) -> Result<Shown, Fail>
+    requires { opened.now.code ≡ code.now }
+{
+    let entry = opened.entry(alloc)?;
+    let job = Job {
+        code,
+        region: opened.region(),
+    };
+    works_over::<Brand, W>(rt, alloc, job, &entry, at, lie)
+}
+
+// The first region of a code.
 fn works_to_the_end<W: Wait>(
     rt: &W,
     alloc: Global,
@@ -198,11 +217,9 @@ fn works_to_the_end<W: Wait>(
     let Ok(plain) = Plain::new(alloc, code, &[]) else {
         return Err(Fail::from("no machine"));
     };
-    match plain.entry_at(alloc, 1, 1024)? {
-        Reached::At(region, entry) => {
-            works_over::<Brand, W>(rt, alloc, Job { code, region }, &entry, at, lie)
-        }
-        Reached::Ended | Reached::More => Err(Fail::from("a region is wanted")),
+    match plain.to_region(1024) {
+        Paused::At(opened) => works_at(rt, alloc, code, &opened, at, lie),
+        _ => Err(Fail::from("no region")),
     }
 }
 
@@ -213,7 +230,7 @@ fn two_turns(alloc: Global) -> Result<Code, Fail> {
     }
 }
 
-// Sixteen calls come to the end, since one worker's eleventh and last load is answered by its own mark; a call past them is none.
+// There are fewer calls than a thousand.
 #[test]
 fn a_true_board_is_worked_to_its_end(rt: HostRuntime) -> Result<(), Fail> {
     let code = two_turns(rt.alloc())?;
