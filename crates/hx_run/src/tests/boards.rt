@@ -16,7 +16,7 @@ use std::test::Fail;
 const STEPS: u64 = 1_000_000;
 
 /// How many steps all workers together have.
-const TURNS: u32 = 4096;
+const TURNS: u32 = 16384;
 
 // A program, and what its first marked loop comes to: the words of the globals, the text, the end and the whole turns.
 #[derive(Clone, Copy)]
