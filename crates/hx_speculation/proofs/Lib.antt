@@ -5,5 +5,6 @@ pub mod Calls
 pub mod Frames
 pub mod View
 pub mod Replay
+pub mod Watch
 pub mod Rows
 pub mod CallRows
