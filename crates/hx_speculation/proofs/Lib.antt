@@ -6,5 +6,7 @@ pub mod Frames
 pub mod View
 pub mod Replay
 pub mod Watch
+pub mod Track
+pub mod Links
 pub mod Rows
 pub mod CallRows
