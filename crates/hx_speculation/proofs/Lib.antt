@@ -8,5 +8,6 @@ pub mod Replay
 pub mod Watch
 pub mod Track
 pub mod Links
+pub mod Attempts
 pub mod Rows
 pub mod CallRows

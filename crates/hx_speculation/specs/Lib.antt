@@ -7,3 +7,4 @@ pub mod Sound
 pub mod View
 pub mod Replay
 pub mod Watch
+pub mod Attempts
