@@ -9,5 +9,7 @@ pub mod Watch
 pub mod Track
 pub mod Links
 pub mod Attempts
+pub mod Abandons
+pub mod Repeats
 pub mod Rows
 pub mod CallRows
