@@ -156,6 +156,10 @@ pub record IsSameBut {σ : Type 0} (f g : Frame σ) : Type 0 where
 same_itself : {σ : Type 0} (f : Frame σ) → IsSameBut f f
 same_itself f = record { worker = refl; attempt = refl; start = refl; marks = refl; words = refl }
 
+pub same_then : {σ : Type 0} (f g k : Frame σ) → IsSameBut f g → IsSameBut g k → IsSameBut f k
+same_then f g k s t =
+    record { worker = t.worker ∙ s.worker; attempt = t.attempt ∙ s.attempt; start = t.start ∙ s.start; marks = t.marks ∙ s.marks; words = t.words ∙ s.words }
+
 pub same_sync : {σ : Type 0} (f g : Frame σ) → IsSameBut f g → (x : Slot σ) → InSync f x → InSync g x
 same_sync f g s x k = record { attempt = s.attempt ∙ k.attempt; start = s.start ∙ k.start; marks = s.marks ∙ k.marks; words = s.words ∙ k.words }
 

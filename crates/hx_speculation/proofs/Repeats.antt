@@ -21,7 +21,8 @@ use Rattle.hx_speculation.proofs.Calls.{runs_on, opened_sound}
 use Rattle.hx_speculation.proofs.Frames.{stretch_true}
 use Rattle.hx_speculation.proofs.Replay.{RunsTrue, IsTrueWorld, entry_kept}
 use Rattle.hx_speculation.proofs.Watch.{Source, comes_watched, knows}
-use Rattle.hx_speculation.proofs.Links.{workers, Apart, Distinct, InSync, Empty, Linked, Links, links_set, links_apart, worker_link, mark_workers, write_workers, of_none, of_links, distinct_new, links_new, IsSameBut, same_sync, stretch_same, holds_same, loaded_worker, stored_worker}
+use Rattle.hx_speculation.proofs.Abandons.{counted_is_some, call_none, entry_none}
+use Rattle.hx_speculation.proofs.Links.{workers, Apart, Distinct, InSync, Empty, Linked, Links, links_set, links_apart, worker_link, mark_workers, write_workers, of_none, of_links, distinct_new, links_new, IsSameBut, same_then, same_sync, stretch_same, holds_same, loaded_worker, stored_worker}
 use Rattle.hx_speculation.proofs.Attempts.{independent_is_quiet, opening_clean, SlotFacts, Facts, Anchor, Anchored, Clean, LoadKept, load_once, StoreKept, store_once, facts_later}
 
 -- who settles is the worker of the slot
@@ -43,3 +44,179 @@ not_both b t f = absurd (false≢true (sym f ∙ t))
 violates_repeats : (n : ℕ) (c : Counts) → (violates n c).repeats ≡ c.repeats
 violates_repeats zero c = refl
 violates_repeats (suc n) c = refl
+
+module _ {σ : Type 0} (c : Course σ) (entry : Store) (independent : IsIndependent c.region entry) where
+  quiet : IsQuiet c.region entry
+  quiet = independent_is_quiet c.region entry independent
+
+  -- the frame of a worker is its own
+  abbrev Tagged : ℕ → Option (Running σ) → Type 0
+  Tagged w None = Unit {0}
+  Tagged w (Some y) = y.frame.worker ≡ w
+
+  abbrev Runs : Board σ → Type 0
+  Runs b = has_ended b.exit b.is_spent ≡ false
+
+  abbrev FactsOf : Board σ → List (Slot σ) → Type 0
+  FactsOf b xs = Facts c.region entry b.head b.store b.text b.head xs
+
+  record IsOnce (g : ℕ → Option (Running σ)) (b : Board σ) : Type 0 where
+    links : Runs b → Links g b.active
+    distinct : Distinct (workers b.active)
+    facts : FactsOf b b.active
+    repeats : b.counts.repeats ≡ 0
+
+  record OnceWorld (d : World σ) : Type 0 where
+    tags : (w : ℕ) → Tagged w (d.running w)
+    once : IsOnce d.running d.board
+
+  once_with : (g k : ℕ → Option (Running σ)) (b : Board σ) (xs : List (Slot σ)) (is_out is_spent : Bool) (counts : Counts) → counts.repeats ≡ b.counts.repeats → (has_ended b.exit is_spent ≡ false → Links k xs) → Distinct (workers xs) → FactsOf b xs → IsOnce g b → IsOnce k (record b { active = xs; is_out = is_out; is_spent = is_spent; counts = counts })
+  once_with g k b xs is_out is_spent counts same l n f h = record { links = l; distinct = n; facts = f; repeats = same ∙ h.repeats }
+
+  -- other frames run it
+  relinked : (g k : ℕ → Option (Running σ)) (b : Board σ) (is_out : Bool) → IsOnce g b → (Runs b → Links k b.active) → IsOnce k (record b { is_out = is_out })
+  relinked g k b is_out h l = once_with g k b b.active is_out b.is_spent b.counts refl l h.distinct h.facts h
+
+  -- where it has ended, no frame matters
+  ended_once : (g k : ℕ → Option (Running σ)) (b : Board σ) → has_ended b.exit b.is_spent ≡ true → IsOnce g b → IsOnce k b
+  ended_once g k b e h = relinked g k b b.is_out h (λ runs. not_both _ e runs)
+
+  spent_once : (g k : ℕ → Option (Running σ)) (b : Board σ) (is_out : Bool) → IsOnce g b → IsOnce k (record b { is_out = is_out; is_spent = true })
+  spent_once g k b is_out h = once_with g k b b.active is_out true b.counts refl (λ runs. not_both _ (spent_ended b.exit) runs) h.distinct h.facts h
+
+  -- ---- where the plain turns are
+
+  -- the plain region comes to where the head starts
+  head_comes : (b : Board σ) → b.exit ≡ None → IsSound c.region entry b → Comes c.region entry (Going (head_start c.region b.head (starts_of b.active)) b.store b.text b.head)
+  head_comes b run s = subst (λ o. Comes c.region entry (shown c.region b o)) run s.prefix
+
+  rest_anchored : (head : ℕ) (s : Store) (text : List ℕ) (j : ℕ) (xs : List (Slot σ)) → head < j → AreOpening c.region j (starts_of xs) → Facts c.region entry head s text j xs → Anchored c.region entry head s text j xs
+  rest_anchored head s text j [] lt o f = tt
+  rest_anchored head s text j (x ∷ xs) lt o f = (here, rest_anchored head s text (suc j) xs (omega arith) o.1 f.1)
+    where
+      here : Begins c.region entry j → Anchor c.region entry head s text j x
+      here b =
+          let k = comes_watched c.region entry j b.0 b.1 b.2 b.3 in
+          let opening = (knows c.region entry j b.0 b.1 b.2 k.0 k.1).opening in
+          let comes = subst (λ q. ComesWatched c.region entry (in_turn j q opening.0 opening.1 [])) (sym o.0) opening.2 in
+          let agrees : Agrees opening.0 x.marks =
+          (λ a v lk.
+          let m = (f.0 b).marks a v (inl lt) lk in
+          opening_clean c.region entry j (c.region.opening j) opening.0 opening.1 quiet opening.2 a m.0 ∙ sym m.1) in
+          record { store = opening.0; out = opening.1; writes = []; comes = comes; agrees = agrees; first = λ _. (opening.0, opening.1, comes, agrees) }
+
+  anchored : (b : Board σ) (xs : List (Slot σ)) → b.active ≡ xs → b.exit ≡ None → IsSound c.region entry b → FactsOf b xs → Anchored c.region entry b.head b.store b.text b.head xs
+  anchored b [] e run s f = tt
+  anchored b (x ∷ xs) e run s f =
+      (λ _. record { store = b.store; out = b.text; writes = k.0; comes = k.1; agrees = marks.0; first = first }, rest_anchored b.head b.store b.text (suc b.head) xs (omega arith) (subst (λ l. RestIsOpening c.region b.head (starts_of l)) e s.rest) f.1)
+    where
+      marks : MarksAreSeen b.store (x ∷ xs)
+      marks = subst (MarksAreSeen b.store) e s.marks
+
+      k : (writes : Table) × ComesWatched c.region entry (in_turn b.head x.start b.store b.text writes)
+      k = comes_watched c.region entry b.head x.start b.store b.text (subst (λ l. Comes c.region entry (Going (head_start c.region b.head (starts_of l)) b.store b.text b.head)) e (head_comes b run s))
+
+      first : HasCommittedNone c.region entry b.head b.store b.text b.head x.start → (u : Store) × (t : List ℕ) × ComesWatched c.region entry (in_turn b.head x.start u t []) × Agrees u x.marks
+      first (inl lt) = absurd (omega (arith, lt))
+      first (inr z) = (b.store, b.text, z.1, marks.0)
+
+  clean : (b : Board σ) → b.exit ≡ None → IsSound c.region entry b → Clean c.region entry b.head b.store b.text b.head b.store
+  clean b run s i a le lt ex = by k.0 ((knows c.region entry b.head q b.store b.text k.0 k.1).source a)
+    where
+      q : σ
+      q = head_start c.region b.head (starts_of b.active)
+
+      k : (writes : Table) × ComesWatched c.region entry (in_turn b.head q b.store b.text writes)
+      k = comes_watched c.region entry b.head q b.store b.text (head_comes b run s)
+
+      by : (writes : Table) → Source c.region entry b.store b.head writes a → b.store a ≡ entry a
+      by writes (inl e) = e
+      by writes (inr (inl z)) = quiet z.0 i a (b.store a) (omega (arith, z.1, lt)) z.2 ex
+      by writes (inr (inr z)) = quiet b.head i a (b.store a) lt z.0 ex
+
+  -- ---- a worker that gives up
+
+  -- it has no iteration
+  abbrev Free : ℕ → Board σ → Type 0
+  Free w b = Runs b → Apart w (workers b.active)
+
+  -- where none is counted, none was given up
+  abbrev GivenUp : (ℕ → Option (Running σ)) → ℕ → Answer σ × Board σ → Type 0
+  GivenUp g w p = p.1.counts.abandons ≡ 0 → IsOnce g p.1 × Free w p.1
+
+  abandons_once : (g : ℕ → Option (Running σ)) (w : ℕ) (b : Board σ) (o : Option (ℕ × Slot σ)) → of_worker w b.head b.active ≡ o → IsOnce g b → GivenUp g w (abandons w b o)
+  abandons_once g w b None e h = λ _. (h, λ _. of_none w b.head b.active e)
+  abandons_once g w b (Some p) e h =
+      if_cases {A = Answer σ × Board σ} (GivenUp g w) (may_restart (from_worker w b.active)) _ (spends b)
+      (λ _ n. absurd (counted_is_some b.counts.abandons n))
+      (λ _ n. (spent_once g g b b.is_out h, λ runs. not_both _ (spent_ended b.exit) runs))
+
+  abandon_once : (g : ℕ → Option (Running σ)) (w : ℕ) (b : Board σ) → IsOnce g b → GivenUp g w (call c.region c.capacities (Abandon w) b)
+  abandon_once g w b h =
+      if_cases {A = Answer σ × Board σ} (GivenUp g w) (has_ended b.exit b.is_spent) (Ended, b) (does c.region c.capacities (Abandon w) b)
+      (λ e n. (h, λ runs. not_both _ e runs))
+      (λ _. abandons_once g w b (of_worker w b.head b.active) refl h)
+
+  -- with a frame of a worker without an iteration nothing is settled
+  settles_free : (g : ℕ → Option (Running σ)) (w : ℕ) (t : Token) (f : Frame σ) (b : Board σ) (xs : List (Slot σ)) → f.worker ≡ w → Apart w (workers xs) → IsOnce g b → IsOnce g (settles c.region b t f true xs).1
+  settles_free g w t f b [] tag n h = relinked g g b false h h.links
+  settles_free g w t f b (x ∷ later) tag n h =
+      if_cases {A = Answer σ × Board σ} (λ p. IsOnce g p.1) (true && is_of_slot c.region b.head t f x) (settles_need c.region b t f x later f.need) (refuses b)
+      (λ k. absurd (n.0 (sym (settler t f x b.head _ k) ∙ tag)))
+      (λ _. relinked g g b false h h.links)
+
+  settle_free : (g : ℕ → Option (Running σ)) (w : ℕ) (t : Token) (f : Frame σ) (b : Board σ) → f.worker ≡ w → Free w b → IsOnce g b → IsOnce g (call c.region c.capacities (Settle t f true) b).1
+  settle_free g w t f b tag n h =
+      if_cases {A = Answer σ × Board σ} (λ p. IsOnce g p.1) (has_ended b.exit b.is_spent) (Ended, b) (settles c.region b t f true b.active)
+      (λ _. h)
+      (λ runs. settles_free g w t f b b.active tag (n runs) h)
+
+  spends_token_once : (g : ℕ → Option (Running σ)) (w : ℕ) (f : Frame σ) (token : Option Token) (b : Board σ) → f.worker ≡ w → (spends_token c w f token b).counts.abandons ≡ 0 → IsOnce g b → IsOnce g (spends_token c w f token b)
+  spends_token_once g w f None b tag n h = h
+  spends_token_once g w f (Some t) b tag n h =
+      let after = board_after (call c.region c.capacities (Abandon w) b) in
+      let k = abandon_once g w b h (call_none c (Settle t f true) after n) in
+      settle_free g w t f after tag k.1 k.0
+
+  -- ---- one entry of a schedule
+
+  facts_new : (head : ℕ) (s : Store) (text : List ℕ) (j w : ℕ) (q : σ) (xs : List (Slot σ)) → Facts c.region entry head s text j xs → Facts c.region entry head s text j (xs ++ first_attempt w q ∷ [])
+  facts_new head s text j w q [] f = ((λ b. record { once = refl; marks = λ a v z k. absurd (cc); words = λ a v k. absurd (cc) }), tt)
+  facts_new head s text j w q (x ∷ xs) f = (f.0, facts_new head s text (suc j) w q xs f.1)
+
+  module _ (w : ℕ) (d : World σ) (true_world : IsTrueWorld c entry d) (h : OnceWorld d) where
+    moved : (o : Option (Running σ)) (b : Board σ) → Tagged w o → IsOnce (with_running d.running w o) b → OnceWorld (record { board = b; running = with_running d.running w o })
+    moved o b t k =
+        record {
+          tags = λ v. if_cases (Tagged v) (v == w) o (d.running v) (λ e. subst (λ z. Tagged z o) (sym (eq_true v w e)) t) (λ _. h.tags v);
+          once = k;
+        }
+
+    -- start
+    abbrev Started : Answer σ × Board σ → Type 0
+    Started p = OnceWorld (after_start w d p.0 p.1)
+
+    start_once : (o : Option (ℕ × Slot σ)) → of_worker w d.board.head d.board.active ≡ o → d.running w ≡ None → Started (starts c.region w d.board o)
+    start_once (Some p) e is =
+        moved (Some (record { frame = begins w p.0 p.1.attempt p.1.start; token = None })) d.board refl (relinked d.running _ d.board d.board.is_out h.once (λ runs.
+        of_links d.running w d.board.head (Some (record { frame = begins w p.0 p.1.attempt p.1.start; token = None })) p d.board.active e (h.once).distinct ((h.once).links runs)
+        (λ l. let m = subst (λ o. Linked o p.1) is l in inr (record { attempt = refl; start = refl; marks = sym m.0; words = sym m.1 }))))
+    start_once None e is =
+        let b = d.board in
+        let j = next_iteration b in
+        let n = of_none w b.head b.active e in
+        let fresh : Slot σ = first_attempt w (c.region.opening j) in
+        let o : Option (Running σ) = Some (record { frame = begins w j 1 (c.region.opening j); token = None }) in
+        if_cases {A = Answer σ × Board σ} Started (nat_lt j (2 ^ 64)) (Go (begins w j 1 (c.region.opening j)), record b { active = b.active ++ fresh ∷ [] }) (spends b)
+        (λ _.
+        moved o _ refl (once_with d.running _ b (b.active ++ fresh ∷ []) b.is_out b.is_spent b.counts refl
+        (λ runs. links_new _ b.active fresh (links_apart d.running w o b.active n ((h.once).links runs)) (worker_link d.running w o fresh refl (inr (record { attempt = refl; start = refl; marks = refl; words = refl }))))
+        (distinct_new w (c.region.opening j) b.active n (h.once).distinct)
+        (facts_new b.head b.store b.text b.head w (c.region.opening j) b.active (h.once).facts) h.once))
+        (λ _. moved None _ tt (spent_once d.running _ b b.is_out h.once))
+
+    start_world : d.running w ≡ None → Started (call c.region c.capacities (Start w true) d.board)
+    start_world is =
+        if_cases {A = Answer σ × Board σ} Started (has_ended d.board.exit d.board.is_spent) (Ended, d.board) (starts c.region w d.board (of_worker w d.board.head d.board.active))
+        (λ e. moved None d.board tt (ended_once d.running _ d.board e h.once))
+        (λ _. start_once (of_worker w d.board.head d.board.active) refl is)
