@@ -220,3 +220,122 @@ module _ {σ : Type 0} (c : Course σ) (entry : Store) (independent : IsIndepend
         if_cases {A = Answer σ × Board σ} Started (has_ended d.board.exit d.board.is_spent) (Ended, d.board) (starts c.region w d.board (of_worker w d.board.head d.board.active))
         (λ e. moved None d.board tt (ended_once d.running _ d.board e h.once))
         (λ _. start_once (of_worker w d.board.head d.board.active) refl is)
+
+    -- the worker's frame y has run on to f
+    module _ (y : Running σ) (is : d.running w ≡ Some y) (f : Frame σ) (same : IsSameBut y.frame f) (true_frame : IsTrue c.region.ask f) (tag : f.worker ≡ w) where
+      relink : (k : Frame σ) (token : Option Token) → IsSameBut y.frame k → (x : Slot σ) → Linked (d.running w) x → Linked (Some (record { frame = k; token = token })) x
+      relink k token s x l = by (subst (λ o. Linked o x) is l)
+        where
+          by : Linked (Some y) x → Linked (Some (record { frame = k; token = token })) x
+          by (inl e) = inl (omega (arith, e.0, s.attempt), e.1)
+          by (inr z) = inr (same_sync y.frame k s x z)
+
+      goes_once : (k : Frame σ) (token : Option Token) (is_out : Bool) → IsSameBut y.frame k → IsOnce (with_running d.running w (Some (record { frame = k; token = token }))) (record d.board { is_out = is_out })
+      goes_once k token is_out s = relinked d.running _ d.board is_out h.once (λ runs. links_set d.running w _ d.board.active ((h.once).links runs) (relink k token s))
+
+      -- it is another attempt, so the slot is empty
+      unlink : (x : Slot σ) → (x.attempt == f.attempt) ≡ false → Linked (d.running w) x → Empty x
+      unlink x k l = by (subst (λ o. Linked o x) is l)
+        where
+          by : Linked (Some y) x → Empty x
+          by (inl e) = e.1
+          by (inr z) = absurd (false≢true (sym k ∙ subst (λ n. (x.attempt == n) ≡ true) (sym (same_sync y.frame f same x z).attempt) (eq_same x.attempt)))
+
+      lost_once : (p : ℕ × Slot σ) → of_worker w d.board.head d.board.active ≡ Some p → (p.1.attempt == f.attempt) ≡ false → IsOnce (with_running d.running w None) d.board
+      lost_once p e k = relinked d.running _ d.board d.board.is_out h.once (λ runs. of_links d.running w d.board.head None p d.board.active e (h.once).distinct ((h.once).links runs) (unlink p.1 k))
+
+      free_once : of_worker w d.board.head d.board.active ≡ None → IsOnce (with_running d.running w None) d.board
+      free_once e = relinked d.running _ d.board d.board.is_out h.once (λ runs. links_apart d.running w None d.board.active (of_none w d.board.head d.board.active e) ((h.once).links runs))
+
+      lost : (token : Option Token) (b : Board σ) → (spends_token c w f token b).counts.abandons ≡ 0 → IsOnce (with_running d.running w None) b → OnceWorld (stops w d (spends_token c w f token b))
+      lost token b n k = moved None _ tt (spends_token_once _ w f token b tag n k)
+
+      -- load
+      abbrev Loaded : Option Token → Answer σ × Board σ → Type 0
+      Loaded token p = (after_load c w d f token p.0 p.1).board.counts.abandons ≡ 0 → OnceWorld (after_load c w d f token p.0 p.1)
+
+      load_found : (token : Option Token) (a : ℕ) (next : ℤ → σ) (need : f.need ≡ ForLoad a) (asks : c.region.ask f.here ≡ Loads a next) (unwritten : look f.writes a ≡ None) (unmarked : look f.marks a ≡ None) (z : Found) → LoadKept c.region entry d.board.head d.board.store d.board.text independent d.running w y is f same token true_frame.tracked c.capacities.marks a next need asks unwritten unmarked d.board.head z d.board.active → Runs d.board → Loaded token (board_load w f.attempt a d.board z)
+      load_found token a next need asks unwritten unmarked (Known v) k runs n = absurd k
+      load_found token a next need asks unwritten unmarked (New v) k runs n =
+          moved (Some (record { frame = loaded c.region.ask c.capacities.marks v f; token = token })) _ (loaded_worker c.region.ask f c.capacities.marks v ∙ tag)
+          (once_with d.running _ d.board (with_mark w f.attempt a v d.board.active) d.board.is_out d.board.is_spent d.board.counts refl (λ _. k.0)
+          (subst Distinct (sym (mark_workers w f.attempt a v d.board.active)) (h.once).distinct) k.1 h.once)
+      load_found token a next need asks unwritten unmarked MarksFull k runs n =
+          let s = same_then y.frame f (holds f) same (holds_same c.region.ask f) in
+          moved (Some (record { frame = holds f; token = token })) _ ((holds_same c.region.ask f).worker ∙ tag)
+          (once_with d.running _ d.board d.board.active d.board.is_out d.board.is_spent _ refl (λ _. links_set d.running w _ d.board.active ((h.once).links runs) (relink (holds f) token s)) (h.once).distinct (h.once).facts h.once)
+      load_found token a next need asks unwritten unmarked LoadLost k runs n = lost token d.board n (relinked d.running _ d.board d.board.is_out h.once (λ _. k))
+
+      load_world : (token : Option Token) (a : ℕ) → f.need ≡ ForLoad a → IsNeeded c.region.ask f (ForLoad a) → Loaded token (call c.region c.capacities (Load w f.attempt a) d.board)
+      load_world token a need needed =
+          if_cases {A = Answer σ × Board σ} (Loaded token) (has_ended d.board.exit d.board.is_spent) (Ended, d.board) (does c.region c.capacities (Load w f.attempt a) d.board)
+          (λ e n. lost token d.board n (ended_once d.running _ d.board e h.once))
+          (λ runs.
+          let run = runs_on c.region entry d.board.exit d.board.is_spent runs in
+          load_found token a needed.0 need needed.1 needed.2 needed.3 (found c.capacities.marks w f.attempt a (d.board.store a) d.board.active)
+          (load_once c.region entry d.board.head d.board.store d.board.text independent d.running w y is f same token true_frame.tracked c.capacities.marks a needed.0 need needed.1 needed.2 needed.3 d.board.head d.board.store d.board.active (omega arith) (h.once).distinct ((h.once).links runs) (h.once).facts
+          (anchored d.board d.board.active refl run true_world.board (h.once).facts) (clean d.board run true_world.board) (λ _. refl))
+          runs)
+
+      -- store
+      abbrev Stored : Option Token → Answer σ × Board σ → Type 0
+      Stored token p = (after_write c w d f token p.0 p.1).board.counts.abandons ≡ 0 → OnceWorld (after_write c w d f token p.0 p.1)
+
+      store_written : (token : Option Token) (a : ℕ) (v : ℤ) (next : σ) (need : f.need ≡ ForStore a v) (asks : c.region.ask f.here ≡ Stores a v next) (z : Written) → StoreKept c.region entry d.board.head d.board.store d.board.text independent d.running w y is f same token true_frame.tracked c.capacities.buffer a v next need asks d.board.head z d.board.active → Runs d.board → Stored token (board_store w f.attempt a v d.board z)
+      store_written token a v next need asks (Restarts m) k runs n =
+          moved (Some (record { frame = stored c.region.ask c.capacities.buffer f; token = token })) _ (stored_worker c.region.ask f c.capacities.buffer ∙ tag)
+          (once_with d.running _ d.board (with_write w f.attempt a v d.board.active) d.board.is_out d.board.is_spent (violates m d.board.counts) (violates_repeats m d.board.counts) (λ _. k.0)
+          (subst Distinct (sym (write_workers w f.attempt a v d.board.active)) (h.once).distinct) k.1 h.once)
+      store_written token a v next need asks BufferFull k runs n =
+          let s = same_then y.frame f (holds f) same (holds_same c.region.ask f) in
+          moved (Some (record { frame = holds f; token = token })) _ ((holds_same c.region.ask f).worker ∙ tag)
+          (once_with d.running _ d.board d.board.active d.board.is_out d.board.is_spent _ refl (λ _. links_set d.running w _ d.board.active ((h.once).links runs) (relink (holds f) token s)) (h.once).distinct (h.once).facts h.once)
+      store_written token a v next need asks NumbersEnd k runs n = lost token _ n (spent_once d.running _ d.board d.board.is_out h.once)
+      store_written token a v next need asks StoreLost k runs n = lost token d.board n (relinked d.running _ d.board d.board.is_out h.once (λ _. k))
+
+      store_world : (token : Option Token) (a : ℕ) (v : ℤ) → f.need ≡ ForStore a v → IsNeeded c.region.ask f (ForStore a v) → Stored token (call c.region c.capacities (Write w f.attempt a v) d.board)
+      store_world token a v need needed =
+          if_cases {A = Answer σ × Board σ} (Stored token) (has_ended d.board.exit d.board.is_spent) (Ended, d.board) (does c.region c.capacities (Write w f.attempt a v) d.board)
+          (λ e n. lost token d.board n (ended_once d.running _ d.board e h.once))
+          (λ runs.
+          let run = runs_on c.region entry d.board.exit d.board.is_spent runs in
+          store_written token a v needed.0 need needed.1 (written c.capacities.buffer w f.attempt a v d.board.active)
+          (store_once c.region entry d.board.head d.board.store d.board.text independent d.running w y is f same token true_frame.tracked c.capacities.buffer a v needed.0 need needed.1 d.board.head d.board.active (omega arith) (h.once).distinct ((h.once).links runs) (h.once).facts
+          (anchored d.board d.board.active refl run true_world.board (h.once).facts))
+          runs)
+
+      -- alive and head
+      abbrev Lived : Option Token → Answer σ × Board σ → Type 0
+      Lived token p = (after_alive c w d f token p.0 p.1).board.counts.abandons ≡ 0 → OnceWorld (after_alive c w d f token p.0 p.1)
+
+      alive_once : (token : Option Token) (o : Option (ℕ × Slot σ)) → of_worker w d.board.head d.board.active ≡ o → Lived token (lives f.attempt o, d.board)
+      alive_once token None e n = lost token d.board n (free_once e)
+      alive_once token (Some p) e n =
+          if_cases {A = Answer σ} (λ ans. Lived token (ans, d.board)) (p.1.attempt == f.attempt) Live Squashed
+          (λ _ _. moved (Some (record { frame = f; token = token })) d.board tag (goes_once f token d.board.is_out same))
+          (λ k m. lost token d.board m (lost_once p e k))
+          n
+
+      alive_world : (token : Option Token) → Lived token (call c.region c.capacities (Alive w f.attempt) d.board)
+      alive_world token =
+          if_cases {A = Answer σ × Board σ} (Lived token) (has_ended d.board.exit d.board.is_spent) (Ended, d.board) (does c.region c.capacities (Alive w f.attempt) d.board)
+          (λ e n. lost token d.board n (ended_once d.running _ d.board e h.once))
+          (λ _. alive_once token (of_worker w d.board.head d.board.active) refl)
+
+      abbrev Headed : Answer σ × Board σ → Type 0
+      Headed p = OnceWorld (after_head w d f p.0 p.1)
+
+      head_once : (o : Option (ℕ × Slot σ)) → of_worker w d.board.head d.board.active ≡ o → Headed (asks_head w f.attempt d.board o)
+      head_once None e = moved None d.board tt (free_once e)
+      head_once (Some p) e =
+          if_cases {A = Answer σ × Board σ} Headed (p.1.attempt == f.attempt) (gives_head w f.attempt p.0 d.board) (Squashed, d.board)
+          (λ _. if_cases {A = Answer σ × Board σ} Headed ((p.0 == d.board.head) && not d.board.is_out) (Yours (record { worker = w; iteration = p.0; attempt = f.attempt }), record d.board { is_out = true }) (NotYet, d.board)
+          (λ _. moved (Some (record { frame = f; token = Some (record { worker = w; iteration = p.0; attempt = f.attempt }) })) _ tag (goes_once f _ true same))
+          (λ _. moved (Some (record { frame = f; token = None })) d.board tag (goes_once f None d.board.is_out same)))
+          (λ k. moved None d.board tt (lost_once p e k))
+
+      head_world : Headed (call c.region c.capacities (Head w f.attempt) d.board)
+      head_world =
+          if_cases {A = Answer σ × Board σ} Headed (has_ended d.board.exit d.board.is_spent) (Ended, d.board) (does c.region c.capacities (Head w f.attempt) d.board)
+          (λ e. moved None d.board tt (ended_once d.running _ d.board e h.once))
+          (λ _. head_once (of_worker w d.board.head d.board.active) refl)
