@@ -339,3 +339,150 @@ module _ {σ : Type 0} (c : Course σ) (entry : Store) (independent : IsIndepend
           if_cases {A = Answer σ × Board σ} Headed (has_ended d.board.exit d.board.is_spent) (Ended, d.board) (does c.region c.capacities (Head w f.attempt) d.board)
           (λ e. moved None d.board tt (ended_once d.running _ d.board e h.once))
           (λ _. head_once (of_worker w d.board.head d.board.active) refl)
+
+      -- settle
+      abbrev SettleKept : Answer σ × Board σ → Type 0
+      SettleKept (Again t k, b) = IsOnce (with_running d.running w (Some (record { frame = k; token = Some t }))) b × (k.worker ≡ w)
+      SettleKept (NotThisFrame, b) = IsOnce d.running b
+      SettleKept (_, b) = IsOnce (with_running d.running w None) b
+
+      module _ (t : Token) (x : Slot σ) (later : List (Slot σ)) (e : d.board.active ≡ x ∷ later) (runs : Runs d.board) (mine : x.worker ≡ w) where
+        rest_distinct : Distinct (workers (x ∷ later))
+        rest_distinct = subst (λ l. Distinct (workers l)) e (h.once).distinct
+
+        rest_links : (o : Option (Running σ)) → Links (with_running d.running w o) later
+        rest_links o = links_apart d.running w o later (subst (λ v. Apart v (workers later)) mine rest_distinct.0) (subst (Links d.running) e ((h.once).links runs)).1
+
+        slot_facts : FactsOf d.board (x ∷ later)
+        slot_facts = subst (FactsOf d.board) e (h.once).facts
+
+        commits_once : (q : σ) (text : List ℕ) → SettleKept (commits d.board t x later q text)
+        commits_once q text =
+            let b = d.board in
+            let committed : Slot σ = record x { start = q; marks = []; buffer = [] } in
+            let o : Option (Running σ) = Some (record { frame = begins x.worker b.head x.attempt q; token = Some t }) in (
+              record {
+                links = λ _. (worker_link d.running w o committed mine (inr (record { attempt = refl; start = refl; marks = refl; words = refl })), rest_links o);
+                distinct = rest_distinct;
+                facts = (
+                  λ z. record { once = (slot_facts.0 z).once; marks = λ a v m k. absurd (cc); words = λ a v k. absurd (cc) },
+                  facts_later c.region entry b.head b.head b.store (overlay x.buffer b.store) b.text text (suc b.head) later (omega arith) slot_facts.1,
+                );
+                repeats = (h.once).repeats;
+              },
+              mine,
+            )
+
+        ends_once : (exit : Exit) → SettleKept (ends d.board x later exit)
+        ends_once exit = record { links = λ _. tt; distinct = tt; facts = tt; repeats = (h.once).repeats }
+
+        passes_once : SettleKept (passes d.board x later)
+        passes_once =
+            let b = d.board in
+            let u = overlay x.buffer b.store in
+            let run = runs_on c.region entry b.exit b.is_spent runs in
+            let once : x.attempt ≡ 1 = (slot_facts.0 (_, b.store, b.text, head_comes b run true_world.board)).once in
+            let none : b.counts.repeats ≡ 0 = (h.once).repeats in
+            let one_more : suc b.head ≡ b.head + 1 = omega arith in
+            if_cases {A = Answer σ × Board σ} SettleKept (nat_lt (b.head + 1) (2 ^ 64)) _ (spends (record b { is_out = false }))
+            (λ _. record {
+              links = λ _. rest_links None;
+              distinct = rest_distinct.1;
+              facts = subst (λ n. Facts c.region entry n u b.text n later) one_more (facts_later c.region entry b.head (suc b.head) b.store u b.text b.text (suc b.head) later (omega arith) slot_facts.1);
+              repeats = omega (arith, once, none);
+            })
+            (λ _. spent_once d.running _ b false h.once)
+
+        ask_once : (ask : Ask σ) → SettleKept (settles_ask c.region d.board t f x later ask)
+        ask_once (Goes q) = commits_once f.here d.board.text
+        ask_once (Loads a q) = commits_once f.here d.board.text
+        ask_once (Stores a v q) = commits_once f.here d.board.text
+        ask_once (Prints bytes q full) =
+            if_cases {A = Answer σ × Board σ} SettleKept (has_room_for c.region d.board.text bytes) (commits d.board t x later q (d.board.text ++ bytes)) (ends d.board x later (Faulted full))
+            (λ _. commits_once q (d.board.text ++ bytes))
+            (λ _. ends_once (Faulted full))
+        ask_once TurnEnds = passes_once
+        ask_once Leaves = ends_once Left
+        ask_once (Returns v) = ends_once (Returned v)
+        ask_once (Faults fault) = ends_once (Faulted fault)
+
+        need_once : (need : Need) → SettleKept (settles_need c.region d.board t f x later need)
+        need_once Nothing = commits_once f.here d.board.text
+        need_once (ForLoad a) = commits_once f.here d.board.text
+        need_once (ForStore a v) = commits_once f.here d.board.text
+        need_once ForHead = ask_once (c.region.ask f.here)
+        need_once Held = commits_once f.here d.board.text
+
+      refuses_once : SettleKept (refuses d.board)
+      refuses_once = relinked d.running d.running d.board false h.once (h.once).links
+
+      settles_once : (t : Token) (xs : List (Slot σ)) → d.board.active ≡ xs → Runs d.board → SettleKept (settles c.region d.board t f true xs)
+      settles_once t [] e runs = refuses_once
+      settles_once t (x ∷ later) e runs =
+          if_cases {A = Answer σ × Board σ} SettleKept (true && is_of_slot c.region d.board.head t f x) (settles_need c.region d.board t f x later f.need) (refuses d.board)
+          (λ k. need_once t x later e runs (sym (settler t f x d.board.head _ k) ∙ tag) f.need)
+          (λ _. refuses_once)
+
+      settle_once : (t : Token) → SettleKept (call c.region c.capacities (Settle t f true) d.board)
+      settle_once t =
+          if_cases {A = Answer σ × Board σ} SettleKept (has_ended d.board.exit d.board.is_spent) (Ended, d.board) (settles c.region d.board t f true d.board.active)
+          (λ e. ended_once d.running _ d.board e h.once)
+          (λ runs. settles_once t d.board.active refl runs)
+
+      settle_moved : (p : Answer σ × Board σ) → SettleKept p → (after_settle c w d p.0 p.1).board.counts.abandons ≡ 0 → OnceWorld (after_settle c w d p.0 p.1)
+      settle_moved (Again t k, b) kept n = moved (Some (record { frame = k; token = Some t })) b kept.1 kept.0
+      settle_moved (NotThisFrame, b) kept n =
+          let k = abandon_once d.running w b kept n in
+          let after = board_after (call c.region c.capacities (Abandon w) b) in
+          moved None after tt (relinked d.running _ after after.is_out k.0 (λ runs. links_apart d.running w None after.active (k.1 runs) ((k.0).links runs)))
+      settle_moved (_, b) kept n = moved None b tt kept
+
+      head_or_settle : (token : Option Token) → (at_head c w d f token).board.counts.abandons ≡ 0 → OnceWorld (at_head c w d f token)
+      head_or_settle (Some t) n = settle_moved (call c.region c.capacities (Settle t f true) d.board) (settle_once t) n
+      head_or_settle None n = head_world
+
+      stop_world : (token : Option Token) (need : Need) → f.need ≡ need → IsNeeded c.region.ask f need → (at_stop c w d f token need).board.counts.abandons ≡ 0 → OnceWorld (at_stop c w d f token need)
+      stop_world token (ForLoad a) e needed n = load_world token a e needed n
+      stop_world token (ForStore a v) e needed n = store_world token a v e needed n
+      stop_world token ForHead e needed n = head_or_settle token n
+      stop_world token Held e needed n = head_or_settle token n
+      stop_world token Nothing e needed n = alive_world token n
+
+    entry_world : (o : Option (Running σ)) → d.running w ≡ o → RunsTrue c o → (entry_of c w d o).board.counts.abandons ≡ 0 → OnceWorld (entry_of c w d o)
+    entry_world None is t n = start_world is
+    entry_world (Some y) is t n =
+        let f = stretch c.region.ask c.limit y.frame in
+        let same = stretch_same c.region.ask y.frame c.limit in
+        let k = stretch_true c.region.ask c.limit y.frame t in
+        stop_world y is f same k (same.worker ∙ subst (Tagged w) is (h.tags w)) y.token f.need refl k.needed n
+
+  replayed_once : (ws : List ℕ) (d : World σ) → IsTrueWorld c entry d → (d.board.counts.abandons ≡ 0 → OnceWorld d) → (replayed c ws d).board.counts.abandons ≡ 0 → OnceWorld (replayed c ws d)
+  replayed_once [] d t h n = h n
+  replayed_once (w ∷ ws) d t h n =
+      replayed_once ws (entry_of c w d (d.running w)) (entry_kept c entry w d t (d.running w) (t.frames w))
+      (λ after. entry_world w d t (h (entry_none c w d (d.running w) after)) (d.running w) refl (t.frames w) after)
+      n
+
+  opened_once : OnceWorld (world_at entry)
+  opened_once = record { tags = λ w. tt; once = record { links = λ _. tt; distinct = tt; facts = tt; repeats = refl } }
+
+  attempts_are_one : (head : ℕ) (s : Store) (text : List ℕ) (j : ℕ) (xs : List (Slot σ)) → Facts c.region entry head s text j xs → AttemptsAreOne c.region entry j xs
+  attempts_are_one head s text j [] f = tt
+  attempts_are_one head s text j (x ∷ xs) f = ((λ b. (f.0 b).once), attempts_are_one head s text (suc j) xs f.1)
+
+  marks_are_of_entry : (head : ℕ) (s : Store) (text : List ℕ) (j : ℕ) (xs : List (Slot σ)) → Facts c.region entry head s text j xs → MarksAreOfEntry c.region entry head s text j xs
+  marks_are_of_entry head s text j [] f = tt
+  marks_are_of_entry head s text j (x ∷ xs) f = ((λ b z a v k. sym ((f.0 b).marks a v z k).1), marks_are_of_entry head s text (suc j) xs f.1)
+
+  module _ (ws : List ℕ) (n : (replayed c ws (world_at entry)).board.counts.abandons ≡ 0) where
+    at_last : IsOnce (replayed c ws (world_at entry)).running (replayed c ws (world_at entry)).board
+    at_last = (replayed_once ws (world_at entry) (record { board = opened_sound c.region entry; frames = λ w. tt }) (λ _. opened_once) n).once
+
+    pub one_attempt : AttemptsAreOne c.region entry (replayed c ws (world_at entry)).board.head (replayed c ws (world_at entry)).board.active
+    one_attempt = attempts_are_one _ _ _ _ _ (at_last).facts
+
+    pub no_repeats : (replayed c ws (world_at entry)).board.counts.repeats ≡ 0
+    no_repeats = (at_last).repeats
+
+    pub entrys_marks : (let b = (replayed c ws (world_at entry)).board in MarksAreOfEntry c.region entry b.head b.store b.text b.head b.active)
+    entrys_marks = marks_are_of_entry _ _ _ _ _ (at_last).facts
