@@ -201,7 +201,7 @@ module _ {σ : Type 0} (r : Region σ) (entry : Store) where
   does_sound caps (Settle token f is_own) b run t h = settle_sound b token f is_own b.active refl run t h
   does_sound caps (Abandon w) b run t h = abandon_sound w b (of_worker w b.head b.active) h
 
-  runs_on : (e : Option Exit) (is_spent : Bool) → has_ended e is_spent ≡ false → e ≡ None
+  pub runs_on : (e : Option Exit) (is_spent : Bool) → has_ended e is_spent ≡ false → e ≡ None
   runs_on None is_spent h = refl
   runs_on (Some x) is_spent h = absurd (cc)
 

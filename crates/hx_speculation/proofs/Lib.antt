@@ -5,5 +5,11 @@ pub mod Calls
 pub mod Frames
 pub mod View
 pub mod Replay
+pub mod Watch
+pub mod Track
+pub mod Links
+pub mod Attempts
+pub mod Abandons
+pub mod Repeats
 pub mod Rows
 pub mod CallRows

@@ -55,7 +55,7 @@ module _ {σ : Type 0} (c : Course σ) where
   settle_call_gives : (t : Token) (f : Frame σ) (b : Board σ) → GivesTrue (call c.region c.capacities (Settle t f true) b)
   settle_call_gives t f b = if_cases {A = Answer σ × Board σ} GivesTrue (has_ended b.exit b.is_spent) (Ended, b) _ (λ _. tt) (λ _. settle_gives b t f b.active)
 
-  abbrev RunsTrue : Option (Running σ) → Type 0
+  abbrev pub RunsTrue : Option (Running σ) → Type 0
   RunsTrue None = Unit {0}
   RunsTrue (Some x) = IsTrue c.region.ask x.frame
 
@@ -120,7 +120,7 @@ module _ {σ : Type 0} (c : Course σ) where
       at_stop_kept f token Held t = at_head_kept f token t
       at_stop_kept f token Nothing t = alive_kept f token _ _ t (call_sound c.region entry c.capacities (Alive w f.attempt) d.board tt h.board)
 
-      entry_kept : (x : Option (Running σ)) → RunsTrue x → IsTrueWorld entry (entry_of c w d x)
+      pub entry_kept : (x : Option (Running σ)) → RunsTrue x → IsTrueWorld entry (entry_of c w d x)
       entry_kept None t = start_kept (call c.region c.capacities (Start w true) d.board) (start_call_gives w d.board) (call_sound c.region entry c.capacities (Start w true) d.board tt h.board)
       entry_kept (Some x) t =
           let f = stretch c.region.ask c.limit x.frame in

@@ -16,7 +16,7 @@ comes_on r entry p q n c e =
     (k.0, k.1 ∙ ap (steps r n) c.1 ∙ e)
 
 -- one word of an iteration is one of the plain region
-once_does : {σ : Type 0} (r : Region σ) (w : Table) (ask : Ask σ) (s : Store) (q : σ) (u : Store) (text : List ℕ) (k : ℕ) → Once w ask s q u → does r ask s text k ≡ Going q u text k
+pub once_does : {σ : Type 0} (r : Region σ) (w : Table) (ask : Ask σ) (s : Store) (q : σ) (u : Store) (text : List ℕ) (k : ℕ) → Once w ask s q u → does r ask s text k ≡ Going q u text k
 once_does r w (Goes n) s q u text k h = cc (h.0, h.1)
 once_does r w (Loads a n) s q u text k h = cc (h.0, h.1)
 once_does r w (Stores a v n) s q u text k h = cc (h.0, h.1)

@@ -35,10 +35,10 @@ eq_other a b h = grind (arith, nat_tests)
 pub same_or_not : (a b : ℕ) → (a ≡ b) ⊎ (a ≢ b)
 same_or_not a b = grind (arith, nat_tests, eqb_tells a b)
 
-write_same : (s : Store) (a : ℕ) (v : ℤ) → write s a v a ≡ v
+pub write_same : (s : Store) (a : ℕ) (v : ℤ) → write s a v a ≡ v
 write_same s a v = rw (eq_same a)
 
-write_other : (s : Store) (a : ℕ) (v : ℤ) (b : ℕ) → b ≢ a → write s a v b ≡ s b
+pub write_other : (s : Store) (a : ℕ) (v : ℤ) (b : ℕ) → b ≢ a → write s a v b ≡ s b
 write_other s a v b h = rw (eq_other b a h)
 
 overlay_put_at : (t : Table) (a : ℕ) (v : ℤ) (s : Store) (b : ℕ) → (b ≡ a) ⊎ (b ≢ a) → overlay (put t a v) s b ≡ write (overlay t s) a v b

@@ -6,3 +6,5 @@ pub mod Board
 pub mod Sound
 pub mod View
 pub mod Replay
+pub mod Watch
+pub mod Attempts
