@@ -1,5 +1,5 @@
 -- What a command answers: its status, what it has read of its source, and what its output has taken.
-use Rattle.std.specs.Prelude.{◌≡◌, ◌⊎◌, ℕ, ℤ, List, [], ◌∷◌, ◌++◌, Option, Result, IfOk, IfErr, codes}
+use Rattle.std.specs.Prelude.{◌≡◌, ◌⊎◌, ◌↔◌, ℕ, ℤ, List, [], ◌∷◌, ◌++◌, Option, Result, IfOk, IfErr, IsErrOf, codes}
 use Rattle.std.specs.Io.KnownBytes.{Appends}
 use Rattle.hx_tree.specs.declared.outcome.Settings.{Settings}
 use Rattle.hx_code.specs.Code.{CodeView}
@@ -9,9 +9,10 @@ use Rattle.hx_trace.specs.Text.{listing_of as text_of}
 use Rattle.hx_run.specs.declared.executing.Mode.{Mode}
 use Rattle.hx_run.specs.declared.executing.Done.{Done}
 use Rattle.hx_run.specs.declared.refusal.Refusal.{Refusal}
+use Rattle.hx_run.specs.declared.refusal.Refusal.TheVariants as refusal
 use Rattle.hx_run.specs.Refusals.{RefusesSource}
 use Rattle.hx_run.specs.Headline.{AreInRange, IsCodeOf}
-use Rattle.hx_run.specs.Executions.{IsDone, OfRead, Refuses}
+use Rattle.hx_run.specs.Executions.{IsDone, OfRead, Refuses, RefusesSettings}
 use Rattle.hx_answer.specs.declared.replaying.NoTrace.{NoTrace}
 use Rattle.hx_answer.specs.declared.replaying.Schedule.{Schedule}
 use Rattle.hx_answer.specs.declared.status.Status.{Status}
@@ -33,15 +34,16 @@ ShowsText text old new _ = ⊥
 -- ---- runs
 
 -- what an execution answers
-pub record Executed (mode : Mode) (input : List ℤ) (source rest old new : Option (List ℕ)) (r : Result Done Refusal) : Type 0 where
+pub record Executed (mode : Mode) (settings : Settings) (input : List ℤ) (source rest old new : Option (List ℕ)) (r : Result Done Refusal) : Type 0 where
   pub done : IfOk r (IsDone mode input source rest old new)
   pub refused : IfErr r (Refuses mode input source rest old new)
+  pub in_range : IsErrOf r refusal.Settings ↔ RefusesSettings mode settings
 
 -- the status is that of an execution
 pub record ExecutionAnswer (mode : Mode) (settings : Settings) (input : List ℤ) (source rest old new : Option (List ℕ)) (s : Status) : Type 0 where
-  pub executed : Result Done Refusal
-  pub is_executed : Executed mode input source rest old new executed
-  pub is_status : s ≡ status_of_execution executed
+  pub answer : Result Done Refusal
+  pub is_answer : Executed mode settings input source rest old new answer
+  pub is_status : s ≡ status_of_execution answer
 
 -- ---- what is made of code
 

@@ -1,5 +1,5 @@
 -- What is written in two parts, and what an execution makes of what its parts answer.
-use Rattle.std.proofs.Common.{◌≡◌, ℕ, ◌+◌, ℤ, Bool, List, ◌++◌, length, take, min, Option, None, Some, Result, Ok, Err, IfOk, IfErr, refl, sym, ap, subst, ◌∙◌, append_assoc, arith}
+use Rattle.std.proofs.Common.{◌≡◌, ℕ, ◌+◌, ℤ, Bool, List, ◌++◌, length, take, min, Option, None, Some, Result, Ok, Err, IfOk, IfErr, OnErr, refl, sym, ap, subst, ◌∙◌, append_assoc, arith}
 use Rattle.std.proofs.lemmas.List.{take-append-le, take_min}
 use Rattle.std.proofs.Math.Seq.{take-append-add}
 use Rattle.std.specs.Io.KnownBytes.{Appends}
@@ -14,7 +14,7 @@ use Rattle.hx_run.specs.Executions.{failed_read, failed_write, has_stats, told, 
 
 -- ---- one text behind another
 
-pub appends_both : (a b c : Option (List ℕ)) (xs ys : List ℕ) → Appends a b xs → Appends b c ys → Appends a c (xs ++ ys)
+appends_both : (a b c : Option (List ℕ)) (xs ys : List ℕ) → Appends a b xs → Appends b c ys → Appends a c (xs ++ ys)
 appends_both None b c xs ys h k = tt
 appends_both (Some x) None c xs ys h k = absurd h
 appends_both (Some x) (Some y) None xs ys h k = absurd k
@@ -22,15 +22,26 @@ appends_both (Some x) (Some y) (Some z) xs ys h k = simp (k, h, append_assoc) re
 
 -- a beginning of the first is one of both
 
-pub begins_first : (a b : Option (List ℕ)) (xs ys : List ℕ) (n : ℕ) → Appends a b (take n xs) → (k : ℕ) × Appends a b (take k (xs ++ ys))
+begins_first : (a b : Option (List ℕ)) (xs ys : List ℕ) (n : ℕ) → Appends a b (take n xs) → (k : ℕ) × Appends a b (take k (xs ++ ys))
 begins_first a b xs ys n h =
     let same : take (min n (length xs)) (xs ++ ys) ≡ take n xs = take-append-le (min n (length xs)) xs ys (omega arith) ∙ take_min n xs in
     (min n (length xs), subst (Appends a b) (sym same) h)
 
 -- so is the first with a beginning of the second
-pub begins_second : (a b c : Option (List ℕ)) (xs ys : List ℕ) (n : ℕ) → Appends a b xs → Appends b c (take n ys) → (k : ℕ) × Appends a c (take k (xs ++ ys))
+begins_second : (a b c : Option (List ℕ)) (xs ys : List ℕ) (n : ℕ) → Appends a b xs → Appends b c (take n ys) → (k : ℕ) × Appends a c (take k (xs ++ ys))
 begins_second a b c xs ys n h k =
     (length xs + n, subst (Appends a c) (sym (take-append-add xs ys n)) (appends_both a b c xs (take n ys) h k))
+
+-- the same of what the writing of either part answers
+
+pub begun_at_first : {E : Type 0} (r : Result Unit E) (a b : Option (List ℕ)) (xs ys : List ℕ) → (n : ℕ) × Appends a b (take n xs) → OnErr r ((k : ℕ) × Appends a b (take k (xs ++ ys)))
+begun_at_first (Ok x) a b xs ys h = tt
+begun_at_first (Err e) a b xs ys h = begins_first a b xs ys h.0 h.1
+
+pub begun_at_second : {E : Type 0} (r : Result Unit E) (a b c : Option (List ℕ)) (xs ys : List ℕ) → Appends a b xs → OnErr r ((n : ℕ) × Appends b c (take n ys))
+    → OnErr r ((k : ℕ) × Appends a c (take k (xs ++ ys)))
+begun_at_second (Ok x) a b c xs ys h k = tt
+begun_at_second (Err e) a b c xs ys h k = begins_second a b c xs ys k.0 h k.1
 
 -- ---- a reading that failed
 
