@@ -1,25 +1,16 @@
 -- What was given up stays counted.
-use Rattle.std.proofs.Common.{◌≡◌, ◌≢◌, ℕ, zero, suc, ◌+◌, ◌-◌, ◌^◌, ◌<◌, ◌≤◌, ℤ, ◌⊎◌, inl, inr, Bool, true, false, ◌&&◌, ◌==◌, not, List, [], ◌∷◌, ◌++◌, length, Option, Some, None, refl, sym, ap, ◌∙◌, subst, arith}
-use Rattle.std.specs.Prelude.{if◌then◌else◌, nat_lt}
-use Rattle.std.proofs.lemmas.Bool.{false≢true}
+use Rattle.std.proofs.Common.{◌≡◌, ℕ, zero, suc, ◌+◌, ◌^◌, ℤ, Bool, true, false, ◌&&◌, ◌==◌, not, List, [], ◌∷◌, ◌++◌, Option, Some, None, refl, sym, ◌∙◌, arith}
+use Rattle.std.specs.Prelude.{nat_lt}
 use Rattle.hx_tree.specs.declared.outcome.Counts.{Counts}
-use Rattle.hx_code.specs.declared.word.Exit.{Exit}
-use Rattle.hx_code.specs.declared.word.Exit.TheVariants.{Left, Returned, Faulted}
+use Rattle.hx_code.specs.declared.word.Exit.TheVariants.{Faulted}
 use Rattle.hx_code.specs.Region.{held}
-use Rattle.hx_marks.specs.Table.{Table, look}
-use Rattle.hx_speculation.specs.Iteration.{Store, overlay, Agrees, Ask, Goes, Loads, Stores, Prints, TurnEnds, Leaves, Returns, Faults}
-use Rattle.hx_speculation.specs.Region.{Going, Comes, has_room_for}
-use Rattle.hx_speculation.specs.Frame.{Frame, Need, Nothing, ForLoad, ForStore, ForHead, Held, IsTrue, IsNeeded, begins, stretch, loaded, stored, holds}
-use Rattle.hx_speculation.specs.Slots.{Slot, first_attempt, of_worker, may_restart, Found, Known, New, MarksFull, LoadLost, found, with_mark, Written, Restarts, BufferFull, NumbersEnd, StoreLost, written, with_write, from_worker, restarted_from}
-use Rattle.hx_speculation.specs.Board.{Board, Token, Call, Start, Load, Write, Head, Alive, Settle, Abandon, Answer, Go, Value, Done, Full, Yours, NotYet, Live, Again, Passed, Squashed, NotThisFrame, Ended, spends, next_iteration, starts, after_load as board_load, violates, after_store as board_store, gives_head, asks_head, lives, same_table, is_of_slot, commits, ends, passes, settles_ask, settles_need, refuses, settles, abandons, does, has_ended, call, opened}
-use Rattle.hx_speculation.specs.Sound.{head_start, AreOpening, RestIsOpening, MarksAreSeen, starts_of, shown, IsSound}
-use Rattle.hx_speculation.specs.Replay.{Running, World, Course, with_running, goes_on, stops, board_after, spends_token, after_start, after_load, after_write, after_alive, after_head, after_settle, at_head, at_stop, entry_of, replayed, world_at}
-use Rattle.hx_speculation.specs.Watch.{in_turn, ComesWatched, Begins, Exposed, Wrote, IsIndependent, IsQuiet}
-use Rattle.hx_speculation.specs.Attempts.{AttemptsAreOne, HasCommittedNone, MarksAreOfEntry}
-use Rattle.hx_speculation.proofs.Stores.{if_cases, and_left, and_right, eq_true, eq_same}
-use Rattle.hx_speculation.proofs.Calls.{runs_on, opened_sound}
-use Rattle.hx_speculation.proofs.Frames.{stretch_true}
-use Rattle.hx_speculation.proofs.Watch.{Source, comes_watched, knows}
+use Rattle.hx_speculation.specs.Iteration.{Ask, Goes, Loads, Stores, Prints, TurnEnds, Leaves, Returns, Faults}
+use Rattle.hx_speculation.specs.Region.{has_room_for}
+use Rattle.hx_speculation.specs.Frame.{Frame, Need, Nothing, ForLoad, ForStore, ForHead, Held, stretch}
+use Rattle.hx_speculation.specs.Slots.{Slot, of_worker, may_restart, Found, Known, New, MarksFull, LoadLost, found, Written, Restarts, BufferFull, NumbersEnd, StoreLost, written, from_worker}
+use Rattle.hx_speculation.specs.Board.{Board, Token, Call, Start, Load, Write, Head, Alive, Settle, Abandon, Answer, Go, Value, Done, Full, Yours, NotYet, Live, Again, Squashed, NotThisFrame, Ended, spends, next_iteration, starts, after_load as board_load, violates, after_store as board_store, gives_head, asks_head, is_of_slot, commits, ends, settles_ask, settles_need, refuses, settles, abandons, does, has_ended, call}
+use Rattle.hx_speculation.specs.Replay.{Running, World, Course, board_after, spends_token, after_start, after_load, after_write, after_alive, after_head, after_settle, at_head, at_stop, entry_of}
+use Rattle.hx_speculation.proofs.Stores.{if_cases}
 
 pub counted_is_some : (n : ℕ) → held (n + 1) ≡ 0 → ⊥
 counted_is_some n e = omega arith

@@ -5,16 +5,16 @@ use Rattle.std.proofs.lemmas.Bool.{false≢true}
 use Rattle.hx_marks.specs.Table.{Table, look, put}
 use Rattle.hx_marks.proofs.Tables.{look_put_own, look_put_other}
 use Rattle.hx_buffer.specs.Overlay.{or_else}
-use Rattle.hx_speculation.specs.Iteration.{Store, overlay, Agrees, Loads, Stores, IsIn}
+use Rattle.hx_speculation.specs.Iteration.{Store, overlay, Agrees, Loads, Stores}
 use Rattle.hx_speculation.specs.Region.{Region}
-use Rattle.hx_speculation.specs.Frame.{Frame, ForLoad, ForStore, IsTracked, is_full, loaded, stored}
+use Rattle.hx_speculation.specs.Frame.{Frame, Nothing, ForLoad, ForStore, IsTracked, is_full, loaded, stored}
 use Rattle.hx_speculation.specs.Slots.{Slot, is_at, restarted, may_restart, Found, Known, New, MarksFull, LoadLost, finds_seen, finds_own, found, with_mark, is_violated, violated, squashed, Written, Restarts, BufferFull, NumbersEnd, StoreLost, writes_own, written, with_write}
 use Rattle.hx_speculation.specs.Board.{Token}
 use Rattle.hx_speculation.specs.Replay.{Running, with_running}
 use Rattle.hx_speculation.specs.Watch.{in_turn, ComesWatched, Begins, Exposed, Wrote, IsIndependent, IsQuiet}
 use Rattle.hx_speculation.specs.Attempts.{HasCommittedNone}
-use Rattle.hx_speculation.proofs.Stores.{if_cases, and_left, and_right, eq_true, eq_same, same_or_not, agrees_put}
-use Rattle.hx_speculation.proofs.Watch.{Source, knows, begins_before}
+use Rattle.hx_speculation.proofs.Stores.{if_cases, and_left, and_right, eq_true, eq_same, same_or_not}
+use Rattle.hx_speculation.proofs.Watch.{watched_comes, Source, knows, begins_before}
 use Rattle.hx_speculation.proofs.Track.{exposed_here, wrote_here}
 use Rattle.hx_speculation.proofs.Links.{workers, Apart, Distinct, InSync, Empty, Linked, Links, links_apart, worker_link, squash_links, IsSameBut, same_sync, loaded_is, stored_is}
 
@@ -97,7 +97,7 @@ module _ {σ : Type 0} (r : Region σ) (entry : Store) (head : ℕ) (s : Store) 
   Clean j seen = (i b : ℕ) → j ≤ i → head < i → Exposed r entry i b → seen b ≡ entry b
 
   exposed_begins : (j a : ℕ) → Exposed r entry j a → Begins r entry j
-  exposed_begins j a e = (e.0, e.1, e.2, Rattle.hx_speculation.proofs.Watch.watched_comes r entry j e.0 e.1 e.2 e.3 e.5)
+  exposed_begins j a e = (e.0, e.1, e.2, watched_comes r entry j e.0 e.1 e.2 e.3 e.5)
 
   module _ (independent : IsIndependent r entry) where
     quiet : IsQuiet r entry
@@ -187,20 +187,20 @@ module _ {σ : Type 0} (r : Region σ) (entry : Store) (head : ℕ) (s : Store) 
             let empty_place : is_full capacity f.marks a ≡ false =
             ap (λ o. not (is_some o) && nat_le capacity (length f.marks)) unmarked ∙ ap (λ (t : Table). nat_le capacity (length t)) sync.marks ∙ room in
             let frame_is = loaded_is r.ask f capacity a u next need asks empty_place in
-            let synced : InSync (record f { here = next u; marks = put f.marks a u; need = Rattle.hx_speculation.specs.Frame.Nothing }) marked = record { attempt = sync.attempt; start = sync.start; marks = ap (λ t. put t a u) sync.marks; words = sync.words } in
+            let synced : InSync (record f { here = next u; marks = put f.marks a u; need = Nothing }) marked = record { attempt = sync.attempt; start = sync.start; marks = ap (λ t. put t a u) sync.marks; words = sync.words } in
             let linked : InSync (loaded r.ask capacity u f) marked = subst (λ z. InSync z marked) (sym frame_is) synced in
             subst (λ ys. Links (with_running g w (Some (record { frame = loaded r.ask capacity u f; token = token }))) ys × Facts j ys) (sym (mark_here w f.attempt a u x xs here)) (
-            (worker_link g w _ marked e (inr linked), links_apart g w _ xs n l),
-            (
-              λ b. record {
-                once = (fx b).once;
-                marks = λ i v z lk.
-                    let ex = load_exposed j x sync (k b) z in
-                    marked_facts j i u v x (fx b) z ex (clean_here j a seen x c at_head z ex) (same_or_not i a) lk;
-                words = (fx b).words;
-              },
-              fs,
-            ),
+              (worker_link g w _ marked e (inr linked), links_apart g w _ xs n l),
+              (
+                λ b. record {
+                  once = (fx b).once;
+                  marks = λ i v z lk.
+                      let ex = load_exposed j x sync (k b) z in
+                      marked_facts j i u v x (fx b) z ex (clean_here j a seen x c at_head z ex) (same_or_not i a) lk;
+                  words = (fx b).words;
+                },
+                fs,
+              ),
             ))
 
         own_is : (u : ℤ) (x : Slot σ) → InSync f x → finds_seen capacity u x.marks None ≡ finds_own capacity a u x (look x.buffer a)
@@ -214,8 +214,8 @@ module _ {σ : Type 0} (r : Region σ) (entry : Store) (head : ℕ) (s : Store) 
         load_past j u x xs (Known v) e t d l fx h = h
         load_past j u x xs (New v) e t d l fx h =
             subst (λ ys. Links (with_running g w (Some (record { frame = loaded r.ask capacity v f; token = token }))) ys × Facts j ys) (sym (mark_past w f.attempt a v x xs t)) (
-            (other_link x _ t l (λ same_worker. let lost = load_lost capacity w f.attempt a u xs (subst (λ q. Apart q (workers xs)) same_worker d) in absurd (cc)), h.0),
-            (fx, h.1),
+              (other_link x _ t l (λ same_worker. let lost = load_lost capacity w f.attempt a u xs (subst (λ q. Apart q (workers xs)) same_worker d) in absurd (cc)), h.0),
+              (fx, h.1),
             )
         load_past j u x xs MarksFull e t d l fx h = tt
         load_past j u x xs LoadLost e t d l fx h = (other_link x None t l (λ _. refl), h)
@@ -261,19 +261,19 @@ module _ {σ : Type 0} (r : Region σ) (entry : Store) (head : ℕ) (s : Store) 
             let wrote : Slot σ = record x { buffer = put x.buffer a v } in
             let empty_place : is_full capacity f.writes a ≡ false = ap (λ (t : Table). is_full capacity t a) sync.words ∙ room in
             let frame_is = stored_is r.ask f capacity a v next need asks empty_place in
-            let synced : InSync (record f { here = next; writes = put f.writes a v; need = Rattle.hx_speculation.specs.Frame.Nothing }) wrote = record { attempt = sync.attempt; start = sync.start; marks = sync.marks; words = ap (λ t. put t a v) sync.words } in
+            let synced : InSync (record f { here = next; writes = put f.writes a v; need = Nothing }) wrote = record { attempt = sync.attempt; start = sync.start; marks = sync.marks; words = ap (λ t. put t a v) sync.words } in
             let linked : InSync (stored r.ask capacity f) wrote = subst (λ z. InSync z wrote) (sym frame_is) synced in
             subst (λ ys. Links (with_running g w (Some (record { frame = stored r.ask capacity f; token = token }))) ys × Facts j ys) (sym (write_here w f.attempt a v x xs here)) (
-            (worker_link g w _ wrote e (inr linked), squash_links _ a v xs (links_apart g w _ xs apart l)),
-            (
-              λ b. record {
-                once = (fx b).once;
-                marks = (fx b).marks;
-                words = λ i u lk. written_facts j i u x (fx b) (store_wrote j x sync (k b)) (same_or_not i a) lk;
-              },
-              squash_facts (suc j) a v xs (omega arith)
-                  (λ i lt ex. let bj = begins_before r entry j i (omega arith) (exposed_begins i a ex) in independent j i a v lt (store_wrote j x sync (k bj)) ex) fs,
-            ),
+              (worker_link g w _ wrote e (inr linked), squash_links _ a v xs (links_apart g w _ xs apart l)),
+              (
+                λ b. record {
+                  once = (fx b).once;
+                  marks = (fx b).marks;
+                  words = λ i u lk. written_facts j i u x (fx b) (store_wrote j x sync (k b)) (same_or_not i a) lk;
+                },
+                squash_facts (suc j) a v xs (omega arith)
+                    (λ i lt ex. let bj = begins_before r entry j i (omega arith) (exposed_begins i a ex) in independent j i a v lt (store_wrote j x sync (k bj)) ex) fs,
+              ),
             )
 
         store_here : (j : ℕ) (x : Slot σ) (xs : List (Slot σ)) → is_at x w f.attempt ≡ true → InSync f x → x.worker ≡ w → Apart w (workers xs) → Links g xs → (Begins r entry j → SlotFacts j x) → Facts (suc j) xs → (Begins r entry j → Anchor j x) → head ≤ j → StoreKept j (writes_own capacity a v x xs) (x ∷ xs)
@@ -287,8 +287,8 @@ module _ {σ : Type 0} (r : Region σ) (entry : Store) (head : ℕ) (s : Store) 
         store_past : (j : ℕ) (x : Slot σ) (xs : List (Slot σ)) (z : Written) → written capacity w f.attempt a v xs ≡ z → is_at x w f.attempt ≡ false → Apart x.worker (workers xs) → Linked (g x.worker) x → (Begins r entry j → SlotFacts j x) → StoreKept (suc j) z xs → StoreKept j z (x ∷ xs)
         store_past j x xs (Restarts n) e t d l fx h =
             subst (λ ys. Links (with_running g w (Some (record { frame = stored r.ask capacity f; token = token }))) ys × Facts j ys) (sym (write_past w f.attempt a v x xs t)) (
-            (other_link x _ t l (λ same_worker. let lost = store_lost capacity w f.attempt a v xs (subst (λ q. Apart q (workers xs)) same_worker d) in absurd (cc)), h.0),
-            (fx, h.1),
+              (other_link x _ t l (λ same_worker. let lost = store_lost capacity w f.attempt a v xs (subst (λ q. Apart q (workers xs)) same_worker d) in absurd (cc)), h.0),
+              (fx, h.1),
             )
         store_past j x xs BufferFull e t d l fx h = tt
         store_past j x xs NumbersEnd e t d l fx h = tt

@@ -12,4 +12,5 @@ pub mod Attempts
 pub mod Abandons
 pub mod Repeats
 pub mod Rows
+pub mod WatchRows
 pub mod CallRows

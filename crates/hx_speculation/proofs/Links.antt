@@ -1,14 +1,14 @@
 -- Which frames run the active iterations.
-use Rattle.std.proofs.Common.{◌≡◌, ◌≢◌, ℕ, zero, suc, ◌<◌, ℤ, ◌⊎◌, inl, inr, true, false, ◌&&◌, ◌==◌, List, [], ◌∷◌, ◌++◌, map, Option, Some, None, refl, sym, ap, ◌∙◌, subst, arith}
+use Rattle.std.proofs.Common.{◌≡◌, ◌≢◌, ℕ, zero, suc, ◌<◌, ℤ, ◌⊎◌, inl, inr, Bool, true, false, ◌&&◌, ◌==◌, List, [], ◌∷◌, ◌++◌, map, Option, Some, None, refl, sym, ap, ◌∙◌, subst, arith}
 use Rattle.std.specs.Prelude.{if◌then◌else◌}
 use Rattle.std.proofs.lemmas.Bool.{false≢true}
 use Rattle.hx_marks.specs.Table.{look, put}
 use Rattle.hx_buffer.specs.Overlay.{or_else}
 use Rattle.hx_speculation.specs.Iteration.{Ask, Goes, Loads, Stores, Prints, TurnEnds, Leaves, Returns, Faults}
 use Rattle.hx_speculation.specs.Frame.{Frame, Need, Nothing, ForLoad, ForStore, ForHead, Held, reads, word, words, is_held, stretch, is_full, loads, loaded_for, loaded, stores, stored_for, stored, held_for, holds}
-use Rattle.hx_speculation.specs.Slots.{Slot, first_attempt, is_at, of_worker, restarted, with_mark, is_violated, squashed, with_write, restarted_from}
+use Rattle.hx_speculation.specs.Slots.{Slot, first_attempt, is_at, of_worker, restarted, with_mark, is_violated, squashed, with_write}
 use Rattle.hx_speculation.specs.Replay.{Running, with_running}
-use Rattle.hx_speculation.proofs.Stores.{if_cases, and_left, and_right, eq_true, eq_same}
+use Rattle.hx_speculation.proofs.Stores.{if_cases, eq_true, eq_same}
 
 abbrev pub workers : {σ : Type 0} → List (Slot σ) → List ℕ
 workers xs = map (λ x. x.worker) xs
@@ -202,11 +202,11 @@ module _ {σ : Type 0} (ask : σ → Ask σ) (f : Frame σ) where
   -- with the word that it asked for
   pub loaded_is : (capacity a : ℕ) (v : ℤ) (q : ℤ → σ) → f.need ≡ ForLoad a → ask f.here ≡ Loads a q → is_full capacity f.marks a ≡ false → loaded ask capacity v f ≡ record f { here = q v; marks = put f.marks a v; need = Nothing }
   loaded_is capacity a v q n e room =
-      ap (loaded_for ask capacity v f) n ∙ ap (λ (b : Rattle.std.proofs.Common.Bool). if b then f else loads (ask f.here) a v f) room ∙ ap (λ k. loads k a v f) e
+      ap (loaded_for ask capacity v f) n ∙ ap (λ (b : Bool). if b then f else loads (ask f.here) a v f) room ∙ ap (λ k. loads k a v f) e
 
   pub stored_is : (capacity a : ℕ) (v : ℤ) (q : σ) → f.need ≡ ForStore a v → ask f.here ≡ Stores a v q → is_full capacity f.writes a ≡ false → stored ask capacity f ≡ record f { here = q; writes = put f.writes a v; need = Nothing }
   stored_is capacity a v q n e room =
-      ap (stored_for ask capacity f) n ∙ ap (λ (b : Rattle.std.proofs.Common.Bool). if b then f else stores (ask f.here) a v f) room ∙ ap (λ k. stores k a v f) e
+      ap (stored_for ask capacity f) n ∙ ap (λ (b : Bool). if b then f else stores (ask f.here) a v f) room ∙ ap (λ k. stores k a v f) e
 
   -- whatever it was told, it is of the same worker
   loads_worker : (k : Ask σ) (a : ℕ) (v : ℤ) → (loads k a v f).worker ≡ f.worker

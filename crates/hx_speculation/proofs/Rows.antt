@@ -10,18 +10,18 @@ use Rattle.hx_speculation.specs.Iteration.{Store, Ask, Goes, Loads, Stores, Prin
 use Rattle.hx_speculation.specs.Replay.{Course, replayed, world_at}
 use Rattle.hx_speculation.proofs.Stores.{eq_true, eq_same}
 
-abbrev nat_of : ℤ → ℕ
+abbrev pub nat_of : ℤ → ℕ
 nat_of (pos n) = n
 nat_of (negsuc n) = 0
 
-abbrev full : Fault
+abbrev pub full : Fault
 full = record { kind = TextFull; pos = record { line = 1; col = 1 } }
 
-abbrev zeros : Store
+abbrev pub zeros : Store
 zeros a = pos 0
 
 -- iterations that all begin at state 0
-abbrev course : (ℕ → Ask ℕ) → ℕ → ℕ → Course ℕ
+abbrev pub course : (ℕ → Ask ℕ) → ℕ → ℕ → Course ℕ
 course ask marks buffer = record {
   region = record { ask = ask; opening = λ j. 0; printed = 0; same = λ x y. x == y; same_holds = eq_true; same_itself = eq_same };
   capacities = record { marks = marks; buffer = buffer };
@@ -35,17 +35,17 @@ pub record Shown : Type 0 where
   pub word : ℤ
   pub counts : Counts
 
-abbrev shows : Course ℕ → List ℕ → ℕ → Shown
+abbrev pub shows : Course ℕ → List ℕ → ℕ → Shown
 shows c schedule a =
     let b = (replayed c schedule (world_at zeros)).board in
     record { exit = b.exit; text = b.text; word = b.store a; counts = b.counts }
 
-abbrev counted : (turns repeats violations restarts holds : ℕ) → Counts
+abbrev pub counted : (turns repeats violations restarts holds : ℕ) → Counts
 counted turns repeats violations restarts holds =
     record { regions = 1; turns = turns; repeats = repeats; violations = violations; restarts = restarts; holds = holds; abandons = 0; discarded = 0 }
 
 -- while (c < 2) c = c + 1
-abbrev counting : ℕ → Ask ℕ
+abbrev pub counting : ℕ → Ask ℕ
 counting q =
     if q == 0 then Loads 0 (λ v. 10 + nat_of v)
     else if q == 1 then Loads 0 (λ v. 101 + nat_of v)

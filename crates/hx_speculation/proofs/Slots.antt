@@ -57,8 +57,7 @@ restart_seen s (x ∷ xs) = (agrees_nil s, restart_seen (overlay [] s) xs)
 unviolated_agrees_at : {σ : Type 0} (a b : ℕ) (w : ℤ) (s u : Store) (x : Slot σ) → is_violated a (u a) x ≡ false → ((c : ℕ) → c ≢ a → s c ≡ u c) → Agrees s x.marks → (b ≡ a) ⊎ (b ≢ a) → look x.marks b ≡ Some w → u b ≡ w
 unviolated_agrees_at a b w s u x k d h (inl e) g =
     let there : look x.marks a ≡ Some w = ap (look x.marks) (sym e) ∙ g in
-    let yes : is_some (look x.marks a) ≡ true = ap is_some there in
-    absurd (false≢true (sym k ∙ yes))
+    absurd (cc (k, there))
 unviolated_agrees_at a b w s u x k d h (inr n) g = sym (d b n) ∙ h b w g
 
 unviolated_agrees : {σ : Type 0} (a : ℕ) (s u : Store) (x : Slot σ) → is_violated a (u a) x ≡ false → ((b : ℕ) → b ≢ a → s b ≡ u b) → Agrees s x.marks → Agrees u x.marks

@@ -5,7 +5,7 @@ use Rattle.hx_marks.proofs.Tables.{look_put_other}
 use Rattle.hx_speculation.specs.Iteration.{Store, overlay, Agrees, Ask, Goes, Loads, Stores, Prints, TurnEnds, Leaves, Returns, Faults, Once, Went}
 use Rattle.hx_speculation.specs.Region.{Region}
 use Rattle.hx_speculation.specs.Frame.{Frame, IsTracked}
-use Rattle.hx_speculation.specs.Watch.{Watched, noted, watch, in_turn, ComesWatched, Exposed, Wrote}
+use Rattle.hx_speculation.specs.Watch.{Watched, noted, in_turn, ComesWatched, Exposed, Wrote}
 use Rattle.hx_speculation.proofs.Stores.{same_or_not}
 use Rattle.hx_speculation.proofs.Steps.{once_does}
 use Rattle.hx_speculation.proofs.Watch.{watched_on, watched_comes}

@@ -5,7 +5,7 @@ use Rattle.hx_marks.specs.Table.{Table, look, put}
 use Rattle.hx_marks.proofs.Tables.{look_put_own}
 use Rattle.hx_speculation.specs.Iteration.{Store, write, Ask, Goes, Loads, Stores, Prints, TurnEnds, Leaves, Returns, Faults, IsIn}
 use Rattle.hx_speculation.specs.Region.{Region, Plain, Going, Over, has_room_for, does, steps, Comes}
-use Rattle.hx_speculation.specs.Watch.{Watched, noted, noted_of, watch, watched, in_turn, ComesWatched, Begins, Wrote}
+use Rattle.hx_speculation.specs.Watch.{Watched, noted, watch, watched, in_turn, ComesWatched, Begins, Wrote}
 use Rattle.hx_speculation.proofs.Stores.{if_cases, same_or_not, write_same, write_other, is_in_put}
 
 module _ {σ : Type 0} (r : Region σ) (entry : Store) where
