@@ -4,3 +4,4 @@ pub mod Turns
 pub mod Worlds
 pub mod Plainly
 pub mod Schedules
+pub mod Once

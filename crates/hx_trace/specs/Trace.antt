@@ -1,12 +1,15 @@
 -- What a replay tells.
-use Rattle.std.specs.Prelude.{◌≡◌, ℕ, List, false}
+use Rattle.std.specs.Prelude.{◌≡◌, ℕ, ◌-◌, List, false}
 use Rattle.hx_code.specs.Code.{CodeView}
 use Rattle.hx_code.specs.Local.{LocalView}
 use Rattle.hx_code.specs.Region.{region_after}
 use Rattle.hx_word.specs.declared.entry.Entry.{Entry}
 use Rattle.hx_word.specs.Laws.{begun_from}
 use Rattle.hx_frame.specs.declared.frame.Capacities.{Capacities}
-use Rattle.hx_regions.specs.Region.{store_of}
+use Rattle.hx_regions.specs.Region.{store_of, region_in}
+use Rattle.hx_speculation.specs.Region.{Region}
+use Rattle.hx_speculation.specs.Watch.{IsIndependent}
+use Rattle.hx_word.specs.Entry.{padded}
 use Rattle.hx_speculation.specs.Board.{Board}
 use Rattle.hx_speculation.specs.Replay.{replayed, world_at}
 use Rattle.hx_board.specs.Board.{BoardView, rooms_of, opening_board}
@@ -18,6 +21,14 @@ use Rattle.hx_trace.specs.Turns.{course_of}
 -- the board that a schedule leads to, by the definition, from an entry on which nothing has run
 abbrev pub board_after : CodeView → ℕ → Entry → ℕ → Capacities → List ℕ → Board LocalView
 board_after code region e slots rooms schedule = (replayed (course_of (opening_board code region e slots rooms).setup) schedule (world_at (store_of e.store.items))).board
+
+-- one thread's region of this code from this entry
+abbrev pub region_from : CodeView → ℕ → Entry → Region LocalView
+region_from code region e = region_in code (record { region = region; below = e.depth - 1; words = padded e.locals.items; printed = e.text_len })
+
+-- none of its turns reads, before it writes it, a word that an earlier turn wrote
+abbrev pub IsIndependentFrom : CodeView → ℕ → Entry → Type 0
+IsIndependentFrom code region e = IsIndependent (region_from code region e) (store_of e.store.items)
 
 -- a trace tells a board's store, text, state and counts
 pub record IsTraceOf (b : Board LocalView) (t : Trace) : Type 0 where

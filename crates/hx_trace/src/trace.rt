@@ -7,7 +7,7 @@ ghost use Rattle.hx_board.specs.Board.{board_of};
 ghost use Rattle.hx_trace.specs.Turns.{course_of, world_of, Keeps};
 ghost use Rattle.hx_trace.specs.declared.trace.TraceError.TheVariants.{NoSuchWorker};
 ghost use Rattle.hx_trace.specs.Refused.{number_of};
-ghost use Rattle.hx_trace.specs.Trace.{board_after, IsTraceOf, ShowsPlain, IsTold, IsNew};
+ghost use Rattle.hx_trace.specs.Trace.{board_after, IsTraceOf, IsIndependentFrom, ShowsPlain, IsTold, IsNew};
 
 use crate::answers::{enter, spend};
 use crate::worker::{Held, Worker};
@@ -54,6 +54,9 @@ impl TraceError {
 /// Replays a schedule on a region from an entry, on one thread. Each entry of the schedule is a worker's number: a worker without a
 /// running frame asks the board for an iteration, and another runs a stretch of its frame and hands on what that stopped for.
 ///
+/// Where no turn of the loop reads, before it writes it, a word that an earlier turn wrote, no whole turn takes more than one attempt,
+/// unless a worker gave one up.
+///
 /// `NoSuchWorker` exactly where an entry of the schedule is not below `slots`, however far the others would have come; `Memory` where an
 /// allocation was refused.
 pub fn replay(
@@ -68,6 +71,7 @@ pub fn replay(
     requires { EntryFits code.now region entry.now }
     ensures told { IfOk result (λ t. IsTraceOf (board_after code.now region entry.now slots capacities schedule.now) t) }
     ensures plain { IfOk result (λ t. ShowsPlain code.now region entry.now t) }
+    ensures once { IfOk result (λ t. IsIndependentFrom code.now region entry.now → t.counts.abandons ≡ 0 → t.counts.repeats ≡ 0) }
     ensures workers { (result ≡ Err NoSuchWorker) ↔ (All (λ w. w < slots) schedule.now → ⊥) }
 {
     if !are_workers(schedule, slots) {
