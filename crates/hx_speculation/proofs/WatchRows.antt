@@ -1,5 +1,5 @@
 -- Worked loops, watched: what their turns read and write, and which of them are independent.
-use Rattle.std.proofs.Common.{◌≡◌, ℕ, zero, suc, ℤ, pos, ◌==◌, List, [], ◌∷◌, Option, Some, None, map, inr, refl, subst, arith}
+use Rattle.std.proofs.Common.{◌≡◌, ℕ, zero, suc, ℤ, pos, List, [], ◌∷◌, Some, None, map, inr, refl, subst, arith}
 use Rattle.std.specs.Prelude.{if◌then◌else◌, nat_lt}
 use Rattle.hx_marks.specs.Table.{Table, look}
 use Rattle.hx_marks.proofs.Tables.{look_put_own}
@@ -9,8 +9,8 @@ use Rattle.hx_speculation.specs.Region.{Region, Plain, Going, Over, does}
 use Rattle.hx_speculation.specs.Replay.{Course}
 use Rattle.hx_speculation.specs.Watch.{noted, watched, in_turn, Exposed, Wrote, IsIndependent}
 use Rattle.hx_speculation.specs.Attempts.{HasCommittedNone}
-use Rattle.hx_speculation.proofs.Stores.{if_cases, eq_true, eq_same}
-use Rattle.hx_speculation.proofs.Rows.{zeros, course, Shown, shows, counted, counting}
+use Rattle.hx_speculation.proofs.Stores.{if_cases}
+use Rattle.hx_speculation.proofs.Rows.{zeros, course, shows, counted, counting}
 
 -- what the present turn has written after n words
 abbrev written : Region ℕ → ℕ → List (ℕ × ℤ)
