@@ -35,7 +35,7 @@ pub record Shown : Type 0 where
   pub word : ℤ
   pub counts : Counts
 
-abbrev pub shows : Course ℕ → List ℕ → ℕ → Shown
+abbrev pub shows : {σ : Type 0} → Course σ → List ℕ → ℕ → Shown
 shows c schedule a =
     let b = (replayed c schedule (world_at zeros)).board in
     record { exit = b.exit; text = b.text; word = b.store a; counts = b.counts }
