@@ -289,6 +289,54 @@ fn a_beginning_is_played(rt: HostRuntime) -> Result<(), Fail> {
     Ok(())
 }
 
+// The counts of a schedule of two workers on the first loop of a program, from turns to discarded, and what is left behind.
+fn played(alloc: Global, source: &[u8], schedule: &[u8]) -> Result<(Trace, [u64; 7]), Fail> {
+    let rooms = Capacities {
+        marks: 512,
+        buffer: 64,
+    };
+    let Ok(trace) = first_loop(alloc, source, &[], 2, rooms, schedule)? else {
+        return Err(Fail::from("no trace"));
+    };
+    let c = trace.counts;
+    let counts = [
+        c.turns,
+        c.repeats,
+        c.violations,
+        c.restarts,
+        c.holds,
+        c.abandons,
+        c.discarded,
+    ];
+    Ok((trace, counts))
+}
+
+// Each turn writes a word of its own: nothing is read from another, and nothing begins again.
+#[test]
+fn independent_turns_are_played(rt: HostRuntime) -> Result<(), Fail> {
+    let source = b"int a[2]; int main(){ pfor(int i=0;i<2;i++) a[i]=i; }".as_slice();
+    let (trace, counts) = played(rt.alloc(), source, &[0, 1, 1, 0, 0, 0, 1, 1, 0, 0, 0])?;
+    assert!(&rt; trace.state == State::Left);
+    assert!(&rt; trace.text.is_empty());
+    assert!(&rt; trace.store.as_slice().starts_with(&[0, 1]));
+    assert_eq!(&rt; counts, [2, 0, 0, 0, 0, 0, 0]);
+    Ok(())
+}
+
+// Iteration 1 reads the divisor before iteration 0 stores it: the fault that it would end in is never seen.
+#[test]
+fn an_early_divisor_is_played(rt: HostRuntime) -> Result<(), Fail> {
+    let source =
+        b"int d; int main(){ pfor(int i=0;i<2;i++){ if(i==0) d=2; else print(10/d); } }".as_slice();
+    let schedule = [0, 1, 1, 0, 1, 1, 0, 0, 1, 1, 1, 1, 0, 0, 0];
+    let (trace, counts) = played(rt.alloc(), source, schedule.as_slice())?;
+    assert!(&rt; trace.state == State::Left);
+    assert_eq!(&rt; trace.text.as_slice(), b"5\n".as_slice());
+    assert_eq!(&rt; trace.store.as_slice().first(), Some(&2));
+    assert_eq!(&rt; counts, [2, 1, 1, 1, 0, 0, 0]);
+    Ok(())
+}
+
 // The third entry names no worker, and so nothing is played.
 #[test]
 fn a_schedule_names_workers(rt: HostRuntime) -> Result<(), Fail> {

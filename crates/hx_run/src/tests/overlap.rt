@@ -56,23 +56,31 @@ impl Gate for Holding {
     }
 }
 
-// Held there, iteration 0 stores its counter after iteration 1 has read it, so iteration 1 begins again.
-fn overlaps<R: Abort + Threads + Wait + Sync>(rt: &R, alloc: Global, point: Point) {
+// A program whose iteration 1 has read what iteration 0 stores, and so begins again.
+#[derive(Clone, Copy)]
+struct Dependent<'a> {
+    source: &'a [u8],
+    text: &'a [u8],
+    turns: u64,
+}
+
+// Held there, iteration 0 stores what iteration 1 has read.
+fn overlaps<R: Abort + Threads + Wait + Sync>(
+    rt: &R,
+    alloc: Global,
+    program: Dependent<'_>,
+    point: Point,
+) {
     let gate = Holding::at_first(point);
     let settings = Settings {
         workers: 2,
         marks: 512,
         buffer: 64,
     };
-    let source = b"int a[8]; int main(){ pfor(int i=0;i<8;i++) a[i]=i*i; print(a[7]); }".as_slice();
-    match run(alloc, rt, source, &[], settings, &gate) {
+    match run(alloc, rt, program.source, &[], settings, &gate) {
         Ok(finish) => {
-            assert_eq!(rt; finish.outcome.text.as_slice(), b"49\n".as_slice());
-            assert_eq!(rt;
-                finish.outcome.globals.as_slice(),
-                [0, 1, 4, 9, 16, 25, 36, 49].as_slice()
-            );
-            assert_eq!(rt; finish.counts.turns, 8);
+            assert_eq!(rt; finish.outcome.text.as_slice(), program.text);
+            assert_eq!(rt; finish.counts.turns, program.turns);
             assert!(rt; finish.counts.violations >= 1);
         }
         Err(_) => assert!(rt; false),
@@ -81,8 +89,25 @@ fn overlaps<R: Abort + Threads + Wait + Sync>(rt: &R, alloc: Global, point: Poin
     assert_eq!(rt; gate.missed.load(Ordering::SeqCst), 0);
 }
 
+// Each turn adds to the sum of the one before.
 #[test]
 fn gate_overlap(rt: HostRuntime) {
-    overlaps(&rt, rt.alloc(), Point::InStretch);
-    overlaps(&rt, rt.alloc(), Point::BeforeCall(Call::Load));
+    let sum = Dependent {
+        source: b"int main(){ int s=0; pfor(int i=1;i<=100;i++) s+=i; print(s); }",
+        text: b"5050\n",
+        turns: 100,
+    };
+    overlaps(&rt, rt.alloc(), sum, Point::InStretch);
+    overlaps(&rt, rt.alloc(), sum, Point::BeforeCall(Call::Load));
+}
+
+// Iteration 1 waits in its turn for a word that iteration 0 stores: what it has read is taken back.
+#[test]
+fn a_turn_waits_for_another(rt: HostRuntime) {
+    let waiting = Dependent {
+        source: b"int go; int main(){ pfor(int i=0;i<2;i++){ if(i==0) go=1; else while(go==0){} } print(go); }",
+        text: b"1\n",
+        turns: 2,
+    };
+    overlaps(&rt, rt.alloc(), waiting, Point::InStretch);
 }

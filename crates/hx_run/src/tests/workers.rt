@@ -284,6 +284,47 @@ fn sources_are_refused_on_workers(rt: HostRuntime) -> Result<(), Fail> {
     Ok(())
 }
 
+// Counters that wrap, are used behind the loop, and are told by the place of a fault.
+#[test]
+fn counters_on_workers(rt: HostRuntime) {
+    let rows = [
+        normal(
+            b"int main(){ pfor(int i=2147483646;i>0;i++) print(i); }",
+            b"2147483646\n2147483647\n",
+            &[],
+            2,
+        ),
+        normal(
+            b"int main(){ int i; pfor(i=-2147483647;i<0;i--) emit(66); print(i); }",
+            b"BB2147483647\n",
+            &[],
+            2,
+        ),
+        normal(
+            b"int main(){ int i; pfor(i=10;i>4;i-=4) emit(65); print(i); }",
+            b"AA2\n",
+            &[],
+            2,
+        ),
+        normal(
+            b"int f(){ int i; pfor(i=5;;i+=7){ if(i>20) return i; } return 0; } int main(){ print(f()); }",
+            b"26\n",
+            &[],
+            3,
+        ),
+        Row {
+            end: fault(FaultKind::IndexOutOfRange, 1, 47),
+            ..normal(
+                b"int a[3]; int main(){ int i; pfor(i=0;;i+=2){ a[i]=1; } }",
+                b"",
+                &[1, 0, 1],
+                2,
+            )
+        },
+    ];
+    all_hold(&rt, rt.alloc(), rows.as_slice());
+}
+
 // A text that comes to its limit: so many bytes, and the fault of one more.
 #[test]
 fn full_text_on_workers(rt: HostRuntime) {
