@@ -5,6 +5,7 @@ pub mod Arguments
 pub mod Numbers
 pub mod Calls
 pub mod Locals
+pub mod Counters
 pub mod Regions
 pub mod Validation
 pub mod Shortcuts

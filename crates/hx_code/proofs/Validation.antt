@@ -1,5 +1,5 @@
 -- How the tests of a validator come together.
-use Rattle.std.proofs.Common.{◌≡◌, ◌≢◌, ◌⊎◌, inl, inr, ℕ, zero, suc, ◌+◌, ◌<◌, ◌≤◌, List, [], ◌∷◌, length, refl, ap, sym, subst, ◌∙◌, arith, Some, get_or-set_other, get_or-set_same}
+use Rattle.std.proofs.Common.{◌≡◌, ◌≢◌, ◌⊎◌, inl, inr, ℕ, zero, suc, ◌+◌, ◌<◌, ◌≤◌, List, [], ◌∷◌, length, refl, ap, sym, subst, ◌∙◌, arith, Option, Some, None, get_or-set_other, get_or-set_same}
 use Rattle.std.specs.Prelude.{slice_get, slice_set, slice_index_or}
 use Rattle.std.specs.List.{AllByRecursion}
 use Rattle.std.proofs.Math.Nat.{eq-or-lt_of_le}
@@ -7,9 +7,10 @@ use Rattle.std.proofs.lemmas.Option.{slice_get_within}
 use Rattle.hx_code.specs.declared.word.Word.{Word}
 use Rattle.hx_code.specs.declared.word.Word.TheVariants.{Const, Priv, SetPriv, Glob, SetGlob, Elem, SetElem, Dup, Drop, Unary, Binary, Jump, JumpFalse, JumpTrue, Call, Ret, Print, Emit, Enter, Turn, Leave}
 use Rattle.hx_code.specs.declared.table.Spot.{Spot}
+use Rattle.hx_code.specs.declared.table.Induct.{Induct}
 use Rattle.hx_code.specs.declared.table.Tables.{Tables}
 use Rattle.hx_code.specs.Code.{CodeView, RegionView}
-use Rattle.hx_code.specs.Valid.{IsValid, HasSpots, WithinLimits, EachWord, IsBeside, HasHeight, successors, BeginsFunctions, BeginsRegion, EachRegion, CarriesWell}
+use Rattle.hx_code.specs.Valid.{IsValid, HasSpots, WithinLimits, EachWord, IsBeside, HasHeight, successors, BeginsFunctions, BeginsRegion, EachRegion, CarriesWell, IsCounterOrNone}
 use Rattle.hx_code.specs.Validation.{code_of, tables_of, IsLed, IsFine, IsEnterIn, IsOnlyEnter, AreOnlyEnters, HasTwoEnters, BeginsAt, EntersRegion}
 use Rattle.std.proofs.lemmas.Bool.{cases_lt}
 
@@ -163,6 +164,15 @@ begins_made words t mark r v g s (inr h) other at is =
 pub fine_words : (words : List Word) (t : Tables) → EachWord (code_of words t) (IsFine (tables_of t)) → EachWord (code_of words t) (IsFine (code_of words t))
 fine_words words t all p w s a b = (fine_same words t p w s).0 (all p w s a b)
 
+-- whether a counter is in a function does not look at the words
+counter_same : (words : List Word) (t : Tables) (f : ℕ) (c : Option Induct) → IsCounterOrNone (tables_of t) f c → IsCounterOrNone (code_of words t) f c
+counter_same words t f None h = tt
+counter_same words t f (Some c) h = h
+
+counter_back : (words : List Word) (t : Tables) (f : ℕ) (c : Option Induct) → IsCounterOrNone (code_of words t) f c → IsCounterOrNone (tables_of t) f c
+counter_back words t f None h = tt
+counter_back words t f (Some c) h = h
+
 pub all_valid : (words : List Word) (t : Tables) → HasSpots (code_of words t) → WithinLimits (code_of words t) → EachWord (code_of words t) (IsFine (tables_of t)) → BeginsFunctions (tables_of t)
     → EachRegion (code_of words t) (BeginsRegion (code_of words t)) → EachRegion (tables_of t) (λ r g. CarriesWell (tables_of t) g) → IsValid (code_of words t)
 all_valid words t spots limits all functions regions carries =
@@ -177,7 +187,7 @@ all_valid words t spots limits all functions regions carries =
       functions = functions;
       regions = regions;
       stands = λ p w s a b. (fine p w s a b).3;
-      carries = λ r g at. let h = carries r g at in record { cells = h.cells; in_cells = h.in_cells; carried = h.carried; copied = h.copied; apart = h.apart; known = λ s here. let k = h.known s here in record { carried = k.carried; copied = k.copied } };
+      carries = λ r g at. let h = carries r g at in record { cells = h.cells; in_cells = h.in_cells; carried = h.carried; copied = h.copied; apart = h.apart; counter = h.counter; known = λ s here. let k = h.known s here in record { carried = k.carried; copied = k.copied; counter = counter_same words t s.function g.induct k.counter } };
     }
 
 pub words_of_valid : (words : List Word) (t : Tables) → IsValid (code_of words t) → EachWord (code_of words t) (IsFine (tables_of t))
@@ -188,7 +198,7 @@ words_of_valid words t v p w s a b =
 pub carries_of_valid : (words : List Word) (t : Tables) → IsValid (code_of words t) → EachRegion (tables_of t) (λ r g. CarriesWell (tables_of t) g)
 carries_of_valid words t v r g at =
     let h = v.carries r g at in
-    record { cells = h.cells; in_cells = h.in_cells; carried = h.carried; copied = h.copied; apart = h.apart; known = λ s here. let k = h.known s here in record { carried = k.carried; copied = k.copied } }
+    record { cells = h.cells; in_cells = h.in_cells; carried = h.carried; copied = h.copied; apart = h.apart; counter = h.counter; known = λ s here. let k = h.known s here in record { carried = k.carried; copied = k.copied; counter = counter_back words t s.function g.induct k.counter } }
 
 pub limits_same : (words : List Word) (t : Tables) → WithinLimits (tables_of t) → WithinLimits (code_of words t)
 limits_same words t h =

@@ -8,6 +8,7 @@ pub mod Fits
 pub mod Shortcuts
 pub mod Calls
 pub mod Region
+pub mod Counter
 pub mod Machine
 pub mod Validation
 pub mod Rows

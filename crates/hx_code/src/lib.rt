@@ -4,6 +4,7 @@
 
 mod call;
 pub mod code;
+pub mod counter;
 pub mod local;
 mod number;
 mod operands;

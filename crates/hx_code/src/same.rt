@@ -2,7 +2,7 @@
 
 ghost use Rattle.std.specs.Prelude.{◌≡◌, IsTrue, ◌↔◌};
 
-use crate::table::{Carried, Func, Region, Spot};
+use crate::table::{Carried, Func, Induct, Region, Spot};
 use crate::word::Word;
 
 // ---- plain values
@@ -41,6 +41,16 @@ pub(crate) fn same_words(a: &[Word], b: &[Word]) -> bool
     ensures { IsTrue result ↔ (a.now ≡ b.now) }
 {
     a == b
+}
+
+pub(crate) fn is_same_counter(a: Option<Induct>, b: Option<Induct>) -> bool
+    ensures { IsTrue result ↔ (a ≡ b) }
+{
+    match (a, b) {
+        (None, None) => true,
+        (Some(x), Some(y)) => x.private == y.private && x.step == y.step,
+        _ => false,
+    }
 }
 
 // ---- functions and regions

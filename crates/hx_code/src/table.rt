@@ -2,7 +2,7 @@
 
 ghost use Rattle.std.specs.Prelude.{◌≡◌, IsTrue, ◌↔◌};
 
-use crate::same::{same_bytes, same_carried, same_numbers};
+use crate::same::{is_same_counter, same_bytes, same_carried, same_numbers};
 use crate::word::Array;
 use std::marker::Model;
 
@@ -19,6 +19,14 @@ pub struct Spot {
 pub struct Carried {
     pub private: u32,
     pub cell: u32,
+}
+
+/// A private word that counts iterations: in iteration j it begins with what it held as the region opened and j steps
+/// more, wrapped to 32 bits.
+#[derive(Clone, Copy, PartialEq, Eq, Debug)]
+pub struct Induct {
+    pub private: u32,
+    pub step: i32,
 }
 
 /// A function.
@@ -65,6 +73,8 @@ pub struct Region {
     pub carried: Vec<Carried>,
     /// The private words that are copied into each iteration.
     pub copied: Vec<u32>,
+    /// The private word that counts the iterations, where there is one.
+    pub induct: Option<Induct>,
 }
 
 impl Model for Region {
@@ -72,7 +82,7 @@ impl Model for Region {
 
     ghost Value = { RegionView };
 
-    ghost view = { λ r. record { start = r.start; exit = r.exit; carried = r.carried.items; copied = r.copied.items } };
+    ghost view = { λ r. record { start = r.start; exit = r.exit; carried = r.carried.items; copied = r.copied.items; induct = r.induct } };
 }
 
 impl Region {
@@ -84,6 +94,7 @@ impl Region {
             && self.exit == other.exit
             && same_carried(&self.carried, &other.carried)
             && same_numbers(&self.copied, &other.copied)
+            && is_same_counter(self.induct, other.induct)
     }
 }
 

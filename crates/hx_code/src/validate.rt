@@ -1,14 +1,14 @@
 // When words and tables are valid code.
 
-ghost use Rattle.std.specs.Prelude.{◌≡◌, ◌↔◌, ◌+◌, ◌-◌, ◌^◌, ◌<◌, ◌≤◌, ◌⊎◌, ℕ, MatchOption, IfSome, IsSome, IsTrue, Some, None, List, length, slice_get};
+ghost use Rattle.std.specs.Prelude.{◌≡◌, ◌≢◌, ◌↔◌, ◌+◌, ◌-◌, ◌^◌, ◌<◌, ◌≤◌, ◌⊎◌, ℕ, MatchOption, IfSome, IsSome, IsTrue, Some, None, List, length, slice_get};
 ghost use Rattle.std.specs.List.{All, AllByRecursion};
-ghost use Rattle.hx_code.specs.Valid.{IsSpot, IsRegionOrNone, HasSpots, IsSmallFunction, IsArrayOrNone, IsGlobalOrNone, IsMain, WithinLimits, IsPrivate, IsArray, NamesKnown, successors, StandsRight, EachWord, BeginsFunctions, BeginsRegion, EachRegion, CarriesWell, InFunction, AreDistinctBy, AreApart, privates_of, IsValid};
+ghost use Rattle.hx_code.specs.Valid.{IsSpot, IsRegionOrNone, HasSpots, IsSmallFunction, IsArrayOrNone, IsGlobalOrNone, IsMain, WithinLimits, IsPrivate, IsArray, NamesKnown, successors, StandsRight, EachWord, BeginsFunctions, BeginsRegion, EachRegion, CarriesWell, InFunction, AreDistinctBy, AreApart, IsOnlyCounter, IsCounterOrNone, privates_of, IsValid};
 ghost use Rattle.hx_code.specs.Valid.{pops as pops_of, pushes as pushes_of, parameters_of};
 ghost use Rattle.hx_code.specs.declared.table.Spot.{Spot};
 ghost use Rattle.hx_code.specs.Validation.{code_of, tables_of, IsLed, IsFine, AreOnlyEnters, HasTwoEnters, BeginsAt, EntersRegion, Reaches};
 
 use crate::code::{Code, word_in};
-use crate::table::{Carried, Func, Region, Spot, Tables};
+use crate::table::{Carried, Func, Induct, Region, Spot, Tables};
 use crate::word::{Array, Word};
 use hx_tree::limits::{
     CELL_LIMIT, FUNCTION_LIMIT, GLOBAL_LIMIT, OPERAND_LIMIT, PARAMETER_LIMIT, PRIVATE_LIMIT,
@@ -595,11 +595,22 @@ fn copied_are_below(copied: &[u32], privates: u32) -> bool
     true
 }
 
+fn is_counter_or_none(tables: &Tables, function: u32, counter: Option<Induct>) -> bool
+    ensures { IsTrue result ↔ IsCounterOrNone (tables_of tables.now) function counter }
+{
+    match counter {
+        None => true,
+        Some(c) => c.private < privates(tables, function),
+    }
+}
+
 fn is_within(tables: &Tables, region: &Region, function: u32) -> bool
     ensures { IsTrue result ↔ InFunction (tables_of tables.now) region.now function }
 {
     let privates = privates(tables, function);
-    carried_are_below(&region.carried, privates) && copied_are_below(&region.copied, privates)
+    carried_are_below(&region.carried, privates)
+        && copied_are_below(&region.copied, privates)
+        && is_counter_or_none(tables, function, region.induct)
 }
 
 fn is_in_function(tables: &Tables, region: &Region) -> bool
@@ -608,6 +619,38 @@ fn is_in_function(tables: &Tables, region: &Region) -> bool
     match tables.spots.get(region.start as usize) {
         None => true,
         Some(start) => is_within(tables, region, start.function),
+    }
+}
+
+fn is_not_carried(carried: &[Carried], private: u32) -> bool
+    ensures { IsTrue result ↔ All (λ d. d.private ≢ private) carried.now }
+{
+    for pair in carried {
+        if pair.private == private {
+            return false;
+        }
+    }
+    true
+}
+
+fn is_not_copied(copied: &[u32], private: u32) -> bool
+    ensures { IsTrue result ↔ All (λ k. k ≢ private) copied.now }
+{
+    for other in copied {
+        if *other == private {
+            return false;
+        }
+    }
+    true
+}
+
+// Whether a counter's private word is neither carried nor copied.
+fn is_only_counter(counter: Option<Induct>, carried: &[Carried], copied: &[u32]) -> bool
+    ensures { IsTrue result ↔ IsOnlyCounter counter carried.now copied.now }
+{
+    match counter {
+        None => true,
+        Some(c) => is_not_carried(carried, c.private) && is_not_copied(copied, c.private),
     }
 }
 
@@ -622,6 +665,7 @@ fn carries_well(tables: &Tables, region: &Region) -> bool
         && carried_are_distinct(carried)
         && copied_are_distinct(copied)
         && are_apart(carried, copied)
+        && is_only_counter(region.induct, carried, copied)
 }
 
 fn regions_carry_well(tables: &Tables) -> bool
