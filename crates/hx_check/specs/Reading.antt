@@ -24,7 +24,8 @@ use Rattle.hx_check.specs.declared.symbol.Symbol.{Symbol}
 use Rattle.hx_check.specs.declared.symbol.Symbol.TheVariants as symbol
 use Rattle.hx_check.specs.Resolved.{Expr, Number, Private, Word, Element, Call, Unary, Binary, exprs, Place, ToPrivate, ToWord, ToElement, Assignment, Set, Update, Simple, Declare, Assign, Clauses, Stmt, Block, Do, CallStatement, Print, Emit, If, IfElse, Loop, Break, Continue, Return, no_stmts, stmts, Function, Program}
 use Rattle.hx_check.specs.Symbols.{Declared, Known, Scopes, private_word, with_word, symbol_at, is_in_scope, numbered}
-use Rattle.hx_check.specs.Resolve.{int_word, array_words, kind_if, step_counts, while_clauses}
+use Rattle.hx_check.specs.Counts.{step_counts}
+use Rattle.hx_check.specs.Resolve.{int_word, array_words, kind_if, while_clauses}
 
 -- ---- one check after another
 

@@ -1,8 +1,6 @@
 -- The resolved program of an accepted tree: each name is what it stands for, by the scopes that it stands in. Of a name that
 -- an accepted program can't have where it stands, nothing is meant.
-use Rattle.std.specs.Prelude.{ℕ, ◌+◌, nat_le, if◌then◌else◌, ℤ, pos, neg_ℤ, Bool, true, false, not, ◌&&◌, ◌||◌, List, [], ◌∷◌, length, map, flat_map, codes, Option, Some, None, option_map}
-use Rattle.hx_tree.specs.declared.limits.TheConstants.{CONSTANT_LIMIT}
-use Rattle.hx_tree.specs.declared.tree.Operator.{Operator}
+use Rattle.std.specs.Prelude.{ℕ, ◌+◌, Bool, true, false, not, ◌&&◌, ◌||◌, List, [], ◌∷◌, length, map, flat_map, codes, Option, Some, None, option_map}
 use Rattle.hx_tree.specs.declared.tree.Operator.TheVariants.{Add, Sub}
 use Rattle.hx_tree.specs.Tree as tree
 use Rattle.hx_tree.specs.World.{Map, look_up}
@@ -11,10 +9,10 @@ use Rattle.hx_tree.specs.Meaning.{functions_of, globals_of, opening_words}
 use Rattle.hx_tree.specs.Need.{function_need}
 use Rattle.hx_tree.specs.Accepted.{init_locals, stmt_locals, part_locals, private_words}
 use Rattle.hx_check.specs.declared.resolved.Words.{Words}
-use Rattle.hx_check.specs.declared.resolved.Induct.{Induct}
 use Rattle.hx_check.specs.declared.symbol.Symbol.{Symbol}
 use Rattle.hx_check.specs.declared.symbol.Symbol.TheVariants as symbol
 use Rattle.hx_check.specs.Resolved.{Expr, Number, Private, Word, Element, Call, Unary, Binary, Exprs, no_exprs, expr_and, Place, ToPrivate, ToWord, ToElement, Assignment, Set, Update, Simple, Declare, Assign, Clauses, LoopKind, Plain, IsRegion, Stmt, Block, Do, CallStatement, Print, Emit, If, IfElse, Loop, Break, Continue, Return, Stmts, no_stmts, stmt_and, Function, Program}
+use Rattle.hx_check.specs.Counts.{step_counts}
 use Rattle.hx_check.specs.Carried.{region_of}
 use Rattle.hx_check.specs.Symbols.{Scopes, private_word, with_word, with_words, words_after_init, numbered, symbols_of}
 
@@ -105,41 +103,6 @@ abbrev pub resolve_init : tree.Init → Map Symbol → Scopes → ℕ → List S
 resolve_init tree.NoInit symbols scopes k = []
 resolve_init (tree.InitLocals ds) symbols scopes k = resolve_locals ds symbols scopes k
 resolve_init (tree.InitAssign a) symbols scopes k = Assign (resolve_assignment a symbols scopes) ∷ []
-
--- ---- what a step counts
-
--- the value of a number token
-abbrev pub number_token : tree.Expr → Option ℤ
-number_token (tree.Number n) = if nat_le n CONSTANT_LIMIT then Some (pos n) else None
-number_token _ = None
-
--- by how much `x += e` and `x -= e` count, where e is a number token
-abbrev pub counted_by : Operator → tree.Expr → Option ℤ
-counted_by Add e = number_token e
-counted_by Sub e = option_map neg_ℤ (number_token e)
-counted_by _ e = None
-
--- a private word and by how much it is counted, where there are both
-abbrev pub induct_with : Option ℕ → Option ℤ → Option Induct
-induct_with (Some k) (Some z) = Some (record { private = k; step = z })
-induct_with (Some k) None = None
-induct_with None by = None
-
--- a place that is a local's, counted by so much
-abbrev pub counted_at : tree.Place → Scopes → Option ℤ → Option Induct
-counted_at (tree.ToVariable x) scopes by = induct_with (private_word scopes x.text) by
-counted_at (tree.ToElement x e) scopes by = None
-
--- what a step counts: `x++` and `x--` count by 1 and -1, `x += N` and `x -= N` by N and -N; `x = x + 1` counts nothing
-abbrev pub counted : tree.Assignment → Scopes → Option Induct
-counted (tree.Set p e) scopes = None
-counted (tree.Update p op pos e) scopes = counted_at p scopes (counted_by op e)
-counted (tree.Increment p) scopes = counted_at p scopes (Some (pos 1))
-counted (tree.Decrement p) scopes = counted_at p scopes (Some (neg_ℤ (pos 1)))
-
-abbrev pub step_counts : Option tree.Assignment → Scopes → Option Induct
-step_counts None scopes = None
-step_counts (Some a) scopes = counted a scopes
 
 -- test and step are in the scope that the first clause opens
 abbrev pub resolve_clauses : tree.ForClauses → Map Symbol → Scopes → ℕ → Clauses

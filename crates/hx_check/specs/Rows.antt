@@ -11,7 +11,8 @@ use Rattle.hx_tree.specs.Rows.{at, named}
 use Rattle.hx_check.specs.declared.resolved.Induct.{Induct}
 use Rattle.hx_check.specs.Resolved.{Number, Private, Word, Call, Binary, ToPrivate, ToElement, Set, Update, Simple, Declare, Assign, Clauses, Plain, IsRegion, Stmt, Do, Print, Block, Loop, Return, CallStatement, exprs, stmts, Program}
 use Rattle.hx_check.specs.Symbols.{Scopes}
-use Rattle.hx_check.specs.Resolve.{step_counts, resolve}
+use Rattle.hx_check.specs.Counts.{step_counts}
+use Rattle.hx_check.specs.Resolve.{resolve}
 use Rattle.hx_check.specs.Carried.{region_of}
 
 -- int main(){ int s=0; int k=3; pfor(int i=0;i<k;i++) s+=i; print(s); }
@@ -111,7 +112,7 @@ shadowing_resolved = record {
             (Do (Declare 0 (Number 0))
             ∷ Do (Assign (Set (ToPrivate 0) (Call 0 (at 1 97) (exprs (Private 0 ∷ [])))))
             ∷ []))
-            ∷ Loop Plain (record { init = []; test = Some (Word 0); step = None })
+            ∷ Loop Plain (record { init = []; test = Some (Word 0); step = None; counts = None })
             (CallStatement 0 (at 1 115) (exprs (Number 1 ∷ [])))
             ∷ []);
       }
