@@ -1,31 +1,33 @@
 -- A region by itself and within a machine: what it was opened with differs in private words that it never names.
-use Rattle.std.proofs.Common.{◌≡◌, ℕ, zero, suc, ◌+◌, ◌-◌, ◌%◌, ◌^◌, ◌<◌, ℤ, pos, List, [], ◌∷◌, ◌++◌, length, take, drop, replicate, Option, Some, None, Bool, true, false, is_none, is_some, refl, ap, sym, subst, ◌∙◌, arith, length-set}
+use Rattle.std.proofs.Common.{◌≡◌, ℕ, zero, suc, ◌+◌, ◌-◌, ◌%◌, ◌^◌, ◌<◌, ℤ, pos, ◌+ℤ◌, ◌*ℤ◌, List, [], ◌∷◌, ◌++◌, length, take, drop, replicate, Option, Some, None, Bool, true, false, is_none, is_some, refl, ap, sym, subst, ◌∙◌, arith, length-set}
 use Rattle.std.specs.Prelude.{if◌then◌else◌, nat_le, slice_get, slice_set, slice_index_or}
 use Rattle.std.specs.List.{All}
 use Rattle.std.proofs.lemmas.List.{get_or_append_left, set-append_left, take-append-drop}
 use Rattle.std.proofs.Math.Seq.{take-append_seam}
 use Rattle.hx_tree.specs.declared.limits.TheConstants.{PRIVATE_LIMIT, TEXT_LIMIT}
+use Rattle.hx_tree.specs.Numbers.{wrap}
 use Rattle.hx_tree.specs.declared.outcome.FaultKind.TheVariants.{TextFull}
 use Rattle.hx_tree.specs.declared.outcome.End.{End}
 use Rattle.hx_tree.specs.declared.outcome.End.TheVariants.{Fault}
 use Rattle.hx_code.specs.declared.table.Carried.{Carried}
+use Rattle.hx_code.specs.declared.table.Induct.{Induct}
 use Rattle.hx_code.specs.declared.table.Spot.{Spot}
 use Rattle.hx_code.specs.declared.word.Ask.{Ask}
 use Rattle.hx_code.specs.declared.word.Ask.TheVariants.{Goes, Loads, Stores, Prints, Faults, Calls, Enters, Turns, Leaves, Returns}
 use Rattle.hx_code.specs.declared.word.Exit.{Exit}
 use Rattle.hx_code.specs.declared.word.Exit.TheVariants.{Left, Returned, Faulted}
 use Rattle.hx_code.specs.Code.{CodeView, RegionView, region_of}
-use Rattle.hx_code.specs.Valid.{IsValid, privates_of}
+use Rattle.hx_code.specs.Valid.{IsValid, IsCounterOrNone, privates_of}
 use Rattle.hx_code.specs.Call.{fault_at, bytes_of}
 use Rattle.hx_code.specs.Local.{LocalView, LocalWant, LocalAsks, LocalStuck, asks_of, blank, begun}
 use Rattle.hx_code.specs.Machine.{Machine, does, does_want, by_within, by_end, machine_step, machine_after, resumed}
-use Rattle.hx_code.specs.Region.{Opened, RegionState, opening, copied_words, from_cells, held, iteration_words, region_opening, region_does, region_want, by_exit, region_step, region_after, RegionResult, result_of, words_after}
+use Rattle.hx_code.specs.Region.{Opened, RegionState, opening, copied_words, from_cells, with_counter, held, iteration_words, region_opening, region_does, region_want, by_exit, region_step, region_after, RegionResult, result_of, words_after}
 use Rattle.hx_word.specs.declared.entry.Entry.{Entry}
 use Rattle.hx_word.specs.declared.entry.RegionEnd.{RegionEnd}
 use Rattle.hx_word.specs.Laws.{OpensWith, begun_from, EndsAlike, GoesAlike}
 use Rattle.hx_word.specs.Plain.{OpenView, whole, with_store_of, opens_next}
 use Rattle.hx_word.specs.Entry.{function_in, privates_in, padded, opened_from, region_counts, result_from, EntryFits, IsEntryOf, IsEndOf}
-use Rattle.hx_code.proofs.Regions.{length-from}
+use Rattle.hx_code.proofs.Regions.{length-from, length-counter}
 use Rattle.hx_word.proofs.Regions.{region_there}
 use Rattle.hx_word.proofs.MachineSteps.{machine_then}
 use Rattle.hx_word.proofs.Inside.{in_region, inside_after, inside_ends}
@@ -50,6 +52,19 @@ cells_alike globals (c ∷ cs) store xs ys h =
     let here : c.private < length xs = h zero c (omega arith) in
     let rest : All (λ (d : Carried). d.private < length (slice_set xs c.private v)) cs = subst (λ n. All (λ (d : Carried). d.private < n) cs) (sym (length-set xs c.private v)) (tail_all (λ (d : Carried). d.private < length xs) c cs h) in
     ap (from_cells globals cs store) (set-append_left xs ys c.private v here) ∙ cells_alike globals cs store (slice_set xs c.private v) ys rest
+
+-- a counter's private word is among the first n
+abbrev CounterBelow : ℕ → Option Induct → Type 0
+CounterBelow n None = Unit {0}
+CounterBelow n (Some c) = c.private < n
+
+counter_reads : (c : Option Induct) (xs ys : List ℤ) (j : ℕ) (to : List ℤ) → CounterBelow (length xs) c → with_counter c (xs ++ ys) j to ≡ with_counter c xs j to
+counter_reads None xs ys j to h = refl
+counter_reads (Some c) xs ys j to h = ap (λ v. slice_set to c.private (wrap (v +ℤ pos j *ℤ c.step))) (get_or_append_left xs ys (pos 0) c.private h)
+
+counter_sets : (c : Option Induct) (words : List ℤ) (j : ℕ) (xs ys : List ℤ) → CounterBelow (length xs) c → with_counter c words j (xs ++ ys) ≡ with_counter c words j xs ++ ys
+counter_sets None words j xs ys h = refl
+counter_sets (Some c) words j xs ys h = set-append_left xs ys c.private _ h
 
 -- ---- two regions that were opened alike
 
@@ -140,7 +155,7 @@ opening_alike code o p store alike = ap (λ l. record (region_opening code p sto
 -- ---- a region from its entry was opened as its machine opened it
 
 -- the private words that a region names are those of its function
-named_below : (code : CodeView) → IsValid code → (r : ℕ) → r < length code.regions → All (λ (c : Carried). c.private < privates_in code r) (region_of code r).carried × All (λ k. k < privates_in code r) (region_of code r).copied
+named_below : (code : CodeView) → IsValid code → (r : ℕ) → r < length code.regions → All (λ (c : Carried). c.private < privates_in code r) (region_of code r).carried × All (λ k. k < privates_in code r) (region_of code r).copied × CounterBelow (privates_in code r) (region_of code r).induct
 named_below code v r lt =
     let g = region_of code r in
     let at = region_there code r lt in
@@ -148,7 +163,11 @@ named_below code v r lt =
     let spot : Spot = record { function = begins.spot.function; region = Some r; height = 0 } in
     let known = (v.carries r g at).known spot begins.start in
     let same : privates_in code r ≡ privates_of (slice_get code.functions begins.spot.function) = ap (λ s. privates_of (slice_get code.functions (function_in s))) begins.start in
-    (subst (λ n. All (λ (c : Carried). c.private < n) g.carried) (sym same) known.carried, subst (λ n. All (λ k. k < n) g.copied) (sym same) known.copied)
+    (subst (λ n. All (λ (c : Carried). c.private < n) g.carried) (sym same) known.carried, subst (λ n. All (λ k. k < n) g.copied) (sym same) known.copied, subst (λ n. CounterBelow n g.induct) (sym same) (counter_in begins.spot.function g.induct known.counter))
+  where
+    counter_in : (f : ℕ) (c : Option Induct) → IsCounterOrNone code f c → CounterBelow (privates_of (slice_get code.functions f)) c
+    counter_in f None h = tt
+    counter_in f (Some c) h = h
 
 -- what an entry names, and behind it what it doesn't
 split_at : (n : ℕ) (xs words : List ℤ) → xs ≡ take n words → words ≡ xs ++ drop n words
@@ -158,7 +177,7 @@ pub from_entry : (code : CodeView) → IsValid code → (o : Opened) (store : Li
 from_entry code v o store e is fits = record {
   region = refl;
   printed = sym is.text;
-  begins = λ j. ap (λ b. record { below = b; region = Some o.region; calls = begun g.start (iteration_words g o.words j) ∷ [] }) below ∙ ap (λ ws. record { below = e.depth - 1; region = Some o.region; calls = begun g.start ws ∷ [] }) words;
+  begins = λ j. ap (λ b. record { below = b; region = Some o.region; calls = begun g.start (iteration_words g o.words j) ∷ [] }) below ∙ ap (λ ws. record { below = e.depth - 1; region = Some o.region; calls = begun g.start ws ∷ [] }) (words j);
 }
   where
     g : RegionView
@@ -167,41 +186,67 @@ from_entry code v o store e is fits = record {
     below : o.below ≡ e.depth - 1
     below = omega (arith, is.depth)
 
-    words : copied_words g.copied o.words blank ≡ copied_words g.copied (padded e.locals.items) blank
-    words =
+    words : (j : ℕ) → iteration_words g o.words j ≡ iteration_words g (padded e.locals.items) j
+    words j =
         let xs = e.locals.items in
         let n = privates_in code o.region in
-        let named : All (λ k. k < length xs) g.copied = subst (λ i. All (λ k. k < i) g.copied) (sym fits.locals) (named_below code v o.region fits.region).1 in
-        ap (λ ws. copied_words g.copied ws blank) (split_at n xs o.words is.locals) ∙ copied_alike g.copied xs (drop n o.words) (replicate (PRIVATE_LIMIT - length xs) (pos 0)) blank named
+        let behind = drop n o.words in
+        let zeros = replicate (PRIVATE_LIMIT - length xs) (pos 0) in
+        let below = named_below code v o.region fits.region in
+        let named : All (λ k. k < length xs) g.copied = subst (λ i. All (λ k. k < i) g.copied) (sym fits.locals) below.1 in
+        let counts : CounterBelow (length xs) g.induct = subst (λ i. CounterBelow i g.induct) (sym fits.locals) below.2 in
+        ap (λ ws. iteration_words g ws j) (split_at n xs o.words is.locals)
+        ∙ ap (with_counter g.induct (xs ++ behind) j) (copied_alike g.copied xs behind zeros blank named)
+        ∙ counter_reads g.induct xs behind j (copied_words g.copied (xs ++ zeros) blank) counts
+        ∙ sym (counter_reads g.induct xs zeros j (copied_words g.copied (xs ++ zeros) blank) counts)
 
 -- ---- and it ends as it ends there
 
--- private words behind a region, those that its entry names before the others
-record Behind (code : CodeView) (o : Opened) (e : Entry) (x : Exit) (store : List ℤ) : Type 0 where
+-- private words behind a region, which iteration j ended, those that its entry names before the others
+record Behind (code : CodeView) (o : Opened) (e : Entry) (x : Exit) (j : ℕ) (store : List ℤ) : Type 0 where
   named : List ℤ
-  alone : words_after code x (opened_from o.region e) store ≡ named ++ replicate (PRIVATE_LIMIT - length e.locals.items) (pos 0)
-  inside : words_after code x o store ≡ named ++ drop (privates_in code o.region) o.words
+  alone : words_after code x (opened_from o.region e) j store ≡ named ++ replicate (PRIVATE_LIMIT - length e.locals.items) (pos 0)
+  inside : words_after code x o j store ≡ named ++ drop (privates_in code o.region) o.words
   long : length named ≡ length e.locals.items
 
-words_behind : (code : CodeView) → IsValid code → (o : Opened) (first : List ℤ) (e : Entry) → IsEntryOf code o first e → EntryFits code o.region e → (x : Exit) (store : List ℤ) → Behind code o e x store
-words_behind code v o first e is fits Left store =
-    let xs = e.locals.items in
-    let cs = (region_of code o.region).carried in
-    let n = privates_in code o.region in
-    let named : All (λ (c : Carried). c.private < length xs) cs = subst (λ i. All (λ (c : Carried). c.private < i) cs) (sym fits.locals) (named_below code v o.region fits.region).0 in
-    record {
-      named = from_cells code.globals cs store xs;
-      alone = cells_alike code.globals cs store xs (replicate (PRIVATE_LIMIT - length xs) (pos 0)) named;
-      inside = ap (from_cells code.globals cs store) (split_at n xs o.words is.locals) ∙ cells_alike code.globals cs store xs (drop n o.words) named;
-      long = length-from code.globals cs store xs;
-    }
-words_behind code v o first e is fits (Returned r) store = record { named = e.locals.items; alone = refl; inside = split_at (privates_in code o.region) e.locals.items o.words is.locals; long = refl }
-words_behind code v o first e is fits (Faulted f) store = record { named = e.locals.items; alone = refl; inside = split_at (privates_in code o.region) e.locals.items o.words is.locals; long = refl }
+words_behind : (code : CodeView) → IsValid code → (o : Opened) (first : List ℤ) (e : Entry) → IsEntryOf code o first e → EntryFits code o.region e → (x : Exit) (j : ℕ) (store : List ℤ) → Behind code o e x j store
+words_behind code v o first e is fits Left j store = record {
+  named = named;
+  alone = behind (replicate (PRIVATE_LIMIT - length xs) (pos 0));
+  inside = ap (λ ws. with_counter g.induct ws j (from_cells code.globals g.carried store ws)) (split_at n xs o.words is.locals) ∙ behind (drop n o.words);
+  long = length-counter g.induct xs j cells ∙ length-from code.globals g.carried store xs;
+}
+  where
+    g : RegionView
+    g = region_of code o.region
 
-pub words_alike : (code : CodeView) → IsValid code → (o : Opened) (first : List ℤ) (e : Entry) → IsEntryOf code o first e → EntryFits code o.region e → (x : Exit) (store locals : List ℤ) → locals ≡ take (length e.locals.items) (words_after code x (opened_from o.region e) store)
-    → words_after code x o store ≡ locals ++ drop (length locals) o.words
-words_alike code v o first e is fits x store locals taken =
-    let b = words_behind code v o first e is fits x store in
+    n : ℕ
+    n = privates_in code o.region
+
+    xs : List ℤ
+    xs = e.locals.items
+
+    cells : List ℤ
+    cells = from_cells code.globals g.carried store xs
+
+    named : List ℤ
+    named = with_counter g.induct xs j cells
+
+    -- with other words behind those that the entry names
+    behind : (ys : List ℤ) → with_counter g.induct (xs ++ ys) j (from_cells code.globals g.carried store (xs ++ ys)) ≡ named ++ ys
+    behind ys =
+        let below = named_below code v o.region fits.region in
+        let carried : All (λ (c : Carried). c.private < length xs) g.carried = subst (λ i. All (λ (c : Carried). c.private < i) g.carried) (sym fits.locals) below.0 in
+        let counts : CounterBelow (length xs) g.induct = subst (λ i. CounterBelow i g.induct) (sym fits.locals) below.2 in
+        let there : CounterBelow (length cells) g.induct = subst (λ i. CounterBelow i g.induct) (sym (length-from code.globals g.carried store xs)) counts in
+        ap (with_counter g.induct (xs ++ ys) j) (cells_alike code.globals g.carried store xs ys carried) ∙ counter_reads g.induct xs ys j (cells ++ ys) counts ∙ counter_sets g.induct xs j cells ys there
+words_behind code v o first e is fits (Returned r) j store = record { named = e.locals.items; alone = refl; inside = split_at (privates_in code o.region) e.locals.items o.words is.locals; long = refl }
+words_behind code v o first e is fits (Faulted f) j store = record { named = e.locals.items; alone = refl; inside = split_at (privates_in code o.region) e.locals.items o.words is.locals; long = refl }
+
+pub words_alike : (code : CodeView) → IsValid code → (o : Opened) (first : List ℤ) (e : Entry) → IsEntryOf code o first e → EntryFits code o.region e → (x : Exit) (j : ℕ) (store locals : List ℤ) → locals ≡ take (length e.locals.items) (words_after code x (opened_from o.region e) j store)
+    → words_after code x o j store ≡ locals ++ drop (length locals) o.words
+words_alike code v o first e is fits x j store locals taken =
+    let b = words_behind code v o first e is fits x j store in
     let zeros = replicate (PRIVATE_LIMIT - length e.locals.items) (pos 0) in
     let same : locals ≡ b.named = taken ∙ ap (take (length e.locals.items)) b.alone ∙ ap (λ n. take n (b.named ++ zeros)) (sym b.long) ∙ take-append_seam b.named zeros in
     let count : privates_in code o.region ≡ length b.named = sym fits.locals ∙ sym b.long in
@@ -210,8 +255,8 @@ words_alike code v o first e is fits x store locals taken =
 pub ends_alike : (code : CodeView) → IsValid code → (o : Opened) (first : List ℤ) (e : Entry) → IsEntryOf code o first e → EntryFits code o.region e → (y : RegionState) → y.opened ≡ o → (end : RegionEnd) → IsEndOf code (at_opened (opened_from o.region e) y) (length e.locals.items) end
     → result_of code end.exit y ≡ result_from o end
 ends_alike code v o first e is fits y here end ends =
-    let words : words_after code end.exit y.opened y.store ≡ end.locals.items ++ drop (length end.locals.items) o.words =
-    ap (λ q. words_after code end.exit q y.store) here ∙ words_alike code v o first e is fits end.exit y.store end.locals.items ends.locals in
+    let words : words_after code end.exit y.opened y.iteration y.store ≡ end.locals.items ++ drop (length end.locals.items) o.words =
+    ap (λ q. words_after code end.exit q y.iteration y.store) here ∙ words_alike code v o first e is fits end.exit y.iteration y.store end.locals.items ends.locals in
     let turns : end.counts ≡ region_counts y.turns = ends.counts in
     rw (ends.store, ends.text, turns, words) refl
 

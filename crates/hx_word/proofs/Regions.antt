@@ -1,5 +1,5 @@
 -- What valid code says of a region that is opened.
-use Rattle.std.proofs.Common.{◌≡◌, ℕ, ◌<◌, [], length, Some}
+use Rattle.std.proofs.Common.{◌≡◌, ℕ, ◌<◌, [], length, Some, None}
 use Rattle.std.specs.Prelude.{slice_get}
 use Rattle.std.proofs.lemmas.Option.{slice_get-get_or}
 use Rattle.hx_code.specs.declared.table.Carried.{Carried}
@@ -16,7 +16,7 @@ pub are_carried : (code : CodeView) → IsValid code → (r : ℕ) (g : RegionVi
 are_carried code valid r g at = λ i c here. all_at (λ (c : Carried). (c.private < 64) × (c.cell < 64)) g.carried i c (carried_below code valid r g at) here
 
 pub region_there : (code : CodeView) (r : ℕ) → r < length code.regions → slice_get code.regions r ≡ Some (region_of code r)
-region_there code r lt = slice_get-get_or code.regions r (record { start = 0; exit = 0; carried = []; copied = [] }) lt
+region_there code r lt = slice_get-get_or code.regions r (record { start = 0; exit = 0; carried = []; copied = []; induct = None }) lt
 
 -- an iteration of a region that was opened begins as its place says
 pub opening_fits : (code : CodeView) → IsValid code → (o : Opened) → IsOpened code o → (j : ℕ) → FitsLocal code (opening code o j)

@@ -54,7 +54,7 @@ region_counts turns = record { regions = 1; turns = turns; repeats = 0; violatio
 pub record IsEndOf (code : CodeView) (z : RegionState) (n : ℕ) (e : RegionEnd) : Type 0 where
   pub exit : z.exit ≡ Some e.exit
   pub store : e.store.items ≡ z.store
-  pub locals : e.locals.items ≡ take n (words_after code e.exit z.opened z.store)
+  pub locals : e.locals.items ≡ take n (words_after code e.exit z.opened z.iteration z.store)
   pub text : e.text.items ≡ z.text
   pub counts : e.counts ≡ region_counts z.turns
 

@@ -58,7 +58,7 @@ impl Iterations {
     {
         let opened = &self.opened;
         self.local
-            .begin(code, opened.region, opened.below, &opened.words);
+            .begin(code, opened.region, opened.below, &opened.words, j);
         self.number = j;
     }
 

@@ -6,6 +6,7 @@ ghost use Rattle.hx_word.specs.Opening.{WordsAfter};
 
 use crate::carry::load_cells;
 use hx_code::code::Code;
+use hx_code::counter::set_counter;
 use hx_code::word::Exit;
 
 /// A region that was opened: its number, how many calls are below the one that opened it, the private
@@ -19,11 +20,17 @@ pub struct Opened {
 }
 
 /// The private words of the call that opened the region, once it has ended: only one that is left
-/// gives its cells back.
-pub fn words_behind(code: &Code, opened: &Opened, exit: Exit, store: &[i32]) -> [i32; 64]
+/// gives its cells back, and its counter as it was in the iteration that left it.
+pub fn words_behind(
+    code: &Code,
+    opened: &Opened,
+    exit: Exit,
+    iteration: u64,
+    store: &[i32],
+) -> [i32; 64]
     requires region { opened.now.region < length code.now.regions }
     requires store { length store.now ≡ store_words code.now }
-    ensures { WordsAfter code.now exit opened.now store.now result }
+    ensures { WordsAfter code.now exit opened.now iteration store.now result }
 {
     code.known();
     let mut words = opened.words;
@@ -32,6 +39,7 @@ pub fn words_behind(code: &Code, opened: &Opened, exit: Exit, store: &[i32]) -> 
             let region = code.region_at(opened.region);
             let globals = code.globals() as usize;
             load_cells(&region.carried, globals, store, &mut words);
+            set_counter(region.induct, &opened.words, iteration, &mut words);
             words
         }
         Exit::Returned(_) => words,

@@ -106,7 +106,7 @@ impl<'c> RegionRun<'c> {
                 exit: None,
             }),
             Some(exit) => {
-                let words = words_behind(code, &iterations.opened, exit, &store);
+                let words = words_behind(code, &iterations.opened, exit, iterations.number, &store);
                 let count = locals.len();
                 locals.copy_from_slice(&words[..count]);
                 let (text, turns) = iterations.told();
