@@ -16,6 +16,7 @@ use Rattle.hx_tree.proofs.View.{call_is, block_is}
 use Rattle.hx_check.specs.declared.symbol.Symbol.{Symbol}
 use Rattle.hx_check.specs.Resolved.{Call, exprs, CallStatement}
 use Rattle.hx_check.specs.Symbols.{Known, Scopes}
+use Rattle.hx_check.specs.Counts.{step_counts}
 use Rattle.hx_check.specs.Reading.{Checks, ◌>>=◌, check_expr, check_exprs, check_callee, check_test, check_step, check_init, check_clauses, check_stmt, in_scope, out_of_scope, inside, make_loop}
 use Rattle.hx_check.specs.declared.here.Here.{Here}
 
@@ -58,5 +59,5 @@ pub for_at : (marked : Bool) (h : tree.ForClauses) (s : tree.Stmt) (symbols : Ma
     >>= (λ r. check_stmt s symbols (inside marked here) r.1 >>= (λ q. Ok (make_loop marked here r.0 q.0, out_of_scope q.1))))
 for_at marked h s symbols here known =
     after_init (check_init h.init symbols (in_scope known)) (λ i. check_test h.test symbols i.1.scopes) (λ i. check_step h.step symbols i.1.scopes)
-    (λ i test step. (record { init = i.0; test = test; step = step }, i.1))
+    (λ i test step. (record { init = i.0; test = test; step = step; counts = step_counts h.step i.1.scopes }, i.1))
     (λ r. check_stmt s symbols (inside marked here) r.1 >>= (λ q. Ok (make_loop marked here r.0 q.0, out_of_scope q.1)))

@@ -1,8 +1,11 @@
 -- Which private words a region takes along. The turns of a loop are its test, its body and its step; what goes before it isn't
 -- among them. A private word is declared outside the turns where they don't declare it. Of those, a region carries the ones
--- that its turns assign, and copies the ones that they read and don't assign.
-use Rattle.std.specs.Prelude.{ℕ, Bool, false, not, ◌&&◌, ◌||◌, nat_eq, List, [], ◌∷◌, Option, Some, None}
+-- that its turns assign, and copies the ones that they read and don't assign. The induction local is in neither list: what
+-- goes before the loop gives it its value, the step counts it by a number token, and nothing in the body assigns it, so the
+-- number of a turn tells its value there.
+use Rattle.std.specs.Prelude.{ℕ, Bool, false, not, ◌&&◌, ◌||◌, if◌then◌else◌, nat_eq, List, [], ◌∷◌, Option, Some, None}
 use Rattle.std.specs.List.{range_with_len, filter}
+use Rattle.hx_check.specs.declared.resolved.Induct.{Induct}
 use Rattle.hx_check.specs.Resolved.{Expr, Number, Private, Word, Element, Call, Unary, Binary, Exprs, no_exprs, expr_and, Place, ToPrivate, ToWord, ToElement, Assignment, Set, Update, Simple, Declare, Assign, Clauses, Region, Stmt, Block, Do, CallStatement, Print, Emit, If, IfElse, Loop, Break, Continue, Return, Stmts, no_stmts, stmt_and}
 
 abbrev pub if_any : {X : Type 0} → (X → Bool) → Option X → Bool
@@ -128,15 +131,37 @@ turns_assign k c body = if_any (assigns k) c.step || stmt_assigns k body
 abbrev pub turns_declare : ℕ → Stmt → Bool
 turns_declare k body = stmt_declares k body
 
+-- ---- the induction local
+
+-- a word gets its value: it is declared, or it is assigned by `x = e`
+abbrev pub simple_begins : ℕ → Simple → Bool
+simple_begins k (Declare j e) = nat_eq j k
+simple_begins k (Assign (Set p e)) = is_to k p
+simple_begins k (Assign (Update p op pos e)) = false
+
+abbrev pub kept_if : {X : Type 0} → (X → Bool) → Option X → Option X
+kept_if test None = None
+kept_if test (Some x) = if test x then Some x else None
+
+-- what the step counts, where it gets its value before the loop and nothing in the body assigns it
+abbrev pub induct_of : Clauses → Stmt → Option Induct
+induct_of c body = kept_if (λ i. any_of (simple_begins i.private) c.init && not (stmt_assigns i.private body)) c.counts
+
+abbrev pub is_induct : Clauses → Stmt → ℕ → Bool
+is_induct c body k = if_any (λ i. nat_eq i.private k) (induct_of c body)
+
 -- ---- the lists
 
 abbrev pub is_carried : Clauses → Stmt → ℕ → Bool
-is_carried c body k = not (turns_declare k body) && turns_assign k c body
+is_carried c body k = not (turns_declare k body) && turns_assign k c body && not (is_induct c body k)
 
 abbrev pub is_copied : Clauses → Stmt → ℕ → Bool
-is_copied c body k = not (turns_declare k body) && turns_read k c body && not (turns_assign k c body)
+is_copied c body k = not (turns_declare k body) && turns_read k c body && not (turns_assign k c body) && not (is_induct c body k)
 
 -- the region of a loop in a function with so many private words
 abbrev pub region_of : ℕ → Clauses → Stmt → Region
-region_of privates c body =
-    record { carried = filter (is_carried c body) (range_with_len 0 privates); copied = filter (is_copied c body) (range_with_len 0 privates) }
+region_of privates c body = record {
+  carried = filter (is_carried c body) (range_with_len 0 privates);
+  copied = filter (is_copied c body) (range_with_len 0 privates);
+  induct = induct_of c body;
+}

@@ -24,6 +24,7 @@ use Rattle.hx_check.specs.declared.symbol.Symbol.{Symbol}
 use Rattle.hx_check.specs.declared.symbol.Symbol.TheVariants as symbol
 use Rattle.hx_check.specs.Resolved.{Expr, Number, Private, Word, Element, Call, Unary, Binary, exprs, Place, ToPrivate, ToWord, ToElement, Assignment, Set, Update, Simple, Declare, Assign, Clauses, Stmt, Block, Do, CallStatement, Print, Emit, If, IfElse, Loop, Break, Continue, Return, no_stmts, stmts, Function, Program}
 use Rattle.hx_check.specs.Symbols.{Declared, Known, Scopes, private_word, with_word, symbol_at, is_in_scope, numbered}
+use Rattle.hx_check.specs.Counts.{step_counts}
 use Rattle.hx_check.specs.Resolve.{int_word, array_words, kind_if, while_clauses}
 
 -- ---- one check after another
@@ -221,7 +222,7 @@ check_clauses h symbols known = do
   (init, within) ← check_init h.init symbols known
   test ← check_test h.test symbols within.scopes
   step ← check_step h.step symbols within.scopes
-  Ok (record { init = init; test = test; step = step }, within)
+  Ok (record { init = init; test = test; step = step; counts = step_counts h.step within.scopes }, within)
 
 abbrev pub in_scope : Known → Known
 in_scope known = record { scopes = [] ∷ known.scopes; next = known.next }
@@ -280,7 +281,7 @@ abbrev mutual
     test ← check_test h.test symbols within.scopes
     step ← check_step h.step symbols within.scopes
     (s', after) ← check_stmt s symbols (inside marked here) within
-    Ok (make_loop marked here (record { init = init; test = test; step = step }) s', out_of_scope after)
+    Ok (make_loop marked here (record { init = init; test = test; step = step; counts = step_counts h.step within.scopes }) s', out_of_scope after)
   check_stmt (tree.Break pos) symbols here known = do
     inside ← unless here.in_loop (OutsideLoop pos)
     Ok (Break, known)

@@ -12,6 +12,7 @@ use Rattle.hx_check.specs.declared.resolved.Words.{Words}
 use Rattle.hx_check.specs.declared.symbol.Symbol.{Symbol}
 use Rattle.hx_check.specs.declared.symbol.Symbol.TheVariants as symbol
 use Rattle.hx_check.specs.Resolved.{Expr, Number, Private, Word, Element, Call, Unary, Binary, Exprs, no_exprs, expr_and, Place, ToPrivate, ToWord, ToElement, Assignment, Set, Update, Simple, Declare, Assign, Clauses, LoopKind, Plain, IsRegion, Stmt, Block, Do, CallStatement, Print, Emit, If, IfElse, Loop, Break, Continue, Return, Stmts, no_stmts, stmt_and, Function, Program}
+use Rattle.hx_check.specs.Counts.{step_counts}
 use Rattle.hx_check.specs.Carried.{region_of}
 use Rattle.hx_check.specs.Symbols.{Scopes, private_word, with_word, with_words, words_after_init, numbered, symbols_of}
 
@@ -109,6 +110,7 @@ resolve_clauses h symbols scopes k = record {
   init = resolve_init h.init symbols scopes k;
   test = option_map (λ e. resolve_expr e symbols (words_after_init h.init scopes k)) h.test;
   step = option_map (λ a. resolve_assignment a symbols (words_after_init h.init scopes k)) h.step;
+  counts = step_counts h.step (words_after_init h.init scopes k);
 }
 
 -- ---- statements
@@ -132,7 +134,7 @@ abbrev pub loop_in : Bool → Around → Clauses → Stmt → Stmt
 loop_in marked around c body = Loop (kind_if (marked && not around.is_marked) around.privates c body) c body
 
 abbrev pub while_clauses : Expr → Clauses
-while_clauses test = record { init = []; test = Some test; step = None }
+while_clauses test = record { init = []; test = Some test; step = None; counts = None }
 
 -- declarations and then the rest of a block
 abbrev pub simples_then : List Simple → Stmts → Stmts

@@ -6,6 +6,7 @@ use Rattle.hx_tree.specs.declared.tree.UnaryOp.{UnaryOp}
 use Rattle.hx_tree.specs.declared.tree.BinaryOp.{BinaryOp}
 use Rattle.hx_tree.specs.declared.tree.Operator.{Operator}
 use Rattle.hx_check.specs.declared.resolved.Words.{Words}
+use Rattle.hx_check.specs.declared.resolved.Induct.{Induct}
 
 -- ---- expressions
 
@@ -42,16 +43,19 @@ pub data Simple : Type 0 where
   Declare : ℕ → Expr → Simple
   Assign : Assignment → Simple
 
--- what stands between the parentheses of a loop
+-- what stands between the parentheses of a loop, and what the step counts and by how much, where it is written `x++`, `x--`,
+-- `x += N` or `x -= N` with a local x and a number token N
 pub record Clauses : Type 0 where
   pub init : List Simple
   pub test : Option Expr
   pub step : Option Assignment
+  pub counts : Option Induct
 
--- the private words that a region takes along, in rising order
+-- the private words that a region takes along, in rising order, and its induction local
 pub record Region : Type 0 where
   pub carried : List ℕ
   pub copied : List ℕ
+  pub induct : Option Induct
 
 -- a loop that runs turn after turn, or a marked loop that stands in no other marked loop of its function
 pub data LoopKind : Type 0 where

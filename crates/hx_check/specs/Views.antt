@@ -58,10 +58,10 @@ resolved_simple (simple.Assign a) = resolved.Assign (resolved_assignment a)
 
 abbrev pub resolved_clauses : Clauses → resolved.Clauses
 resolved_clauses c =
-    record { init = map resolved_simple c.init.items; test = option_map resolved_expr c.test; step = option_map resolved_assignment c.step }
+    record { init = map resolved_simple c.init.items; test = option_map resolved_expr c.test; step = option_map resolved_assignment c.step; counts = c.counts }
 
 abbrev pub resolved_region : Region → resolved.Region
-resolved_region r = record { carried = r.carried.items; copied = r.copied.items }
+resolved_region r = record { carried = r.carried.items; copied = r.copied.items; induct = r.induct }
 
 abbrev pub resolved_kind : LoopKind → resolved.LoopKind
 resolved_kind kind.Plain = resolved.Plain

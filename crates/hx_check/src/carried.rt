@@ -6,7 +6,7 @@ ghost use Rattle.hx_check.specs.Resolved.{exprs, stmts};
 ghost use Rattle.hx_check.specs.Views.{resolved_expr, resolved_place, resolved_assignment, resolved_simple, resolved_clauses, resolved_stmt, resolved_region, resolved_option, resolved_step};
 ghost use Rattle.hx_check.specs.Carried as carried;
 
-use crate::resolved::{Assignment, Clauses, Expr, Place, Region, Simple, Stmt};
+use crate::resolved::{Assignment, Clauses, Expr, Induct, Place, Region, Simple, Stmt};
 use std::alloc::{AllocError, Global};
 
 // ---- what reads a private word
@@ -264,7 +264,7 @@ fn stmts_declare(ss: &[Stmt], k: u32) -> bool
     false
 }
 
-// ---- the lists
+// ---- the turns of a loop
 
 fn turns_read(c: &Clauses, body: &Stmt, k: u32) -> bool
     ensures { result ≡ carried.turns_read k (resolved_clauses c.now) (resolved_stmt body.now) }
@@ -278,16 +278,65 @@ fn turns_assign(c: &Clauses, body: &Stmt, k: u32) -> bool
     step_assigns(&c.step, k) || stmt_assigns(body, k)
 }
 
+// ---- the induction local
+
+fn simple_begins(s: &Simple, k: u32) -> bool
+    ensures { result ≡ carried.simple_begins k (resolved_simple s.now) }
+{
+    match s {
+        Simple::Declare(word, _) => *word == k,
+        Simple::Assign(Assignment::Set(to, _)) => is_to(to, k),
+        Simple::Assign(Assignment::Update(_, _, _, _)) => false,
+    }
+}
+
+fn init_begins(init: &[Simple], k: u32) -> bool
+    ensures { result ≡ carried.any_of (carried.simple_begins k) (map resolved_simple init.now) }
+{
+    for s in init {
+        if simple_begins(s, k) {
+            return true;
+        }
+    }
+    false
+}
+
+/// What the step counts, where it gets its value before the loop and nothing in the body assigns it.
+fn induct_of(c: &Clauses, body: &Stmt) -> Option<Induct>
+    ensures { result ≡ carried.induct_of (resolved_clauses c.now) (resolved_stmt body.now) }
+{
+    let counted = c.counts?;
+    if init_begins(&c.init, counted.private) && !stmt_assigns(body, counted.private) {
+        Some(counted)
+    } else {
+        None
+    }
+}
+
+fn is_induct(c: &Clauses, body: &Stmt, k: u32) -> bool
+    ensures { result ≡ carried.is_induct (resolved_clauses c.now) (resolved_stmt body.now) k }
+{
+    match induct_of(c, body) {
+        Some(induct) => induct.private == k,
+        None => false,
+    }
+}
+
+// ---- the lists
+
 fn is_carried(c: &Clauses, body: &Stmt, k: u32) -> bool
     ensures { result ≡ carried.is_carried (resolved_clauses c.now) (resolved_stmt body.now) k }
 {
-    !stmt_declares(body, k) && turns_assign(c, body, k)
+    !stmt_declares(body, k) && turns_assign(c, body, k) && !is_induct(c, body, k)
 }
 
 fn is_copied(c: &Clauses, body: &Stmt, k: u32) -> bool
     ensures { result ≡ carried.is_copied (resolved_clauses c.now) (resolved_stmt body.now) k }
 {
-    !stmt_declares(body, k) && turns_read(c, body, k) && !turns_assign(c, body, k)
+    !stmt_declares(body, k)
+        && turns_read(c, body, k)
+        && !turns_assign(c, body, k)
+        && !is_induct(c, body, k)
 }
 
 fn carried_words(
@@ -335,5 +384,9 @@ pub(crate) fn region_of(
 {
     let carried = carried_words(alloc, privates, c, body)?;
     let copied = copied_words(alloc, privates, c, body)?;
-    Ok(Region { carried, copied })
+    Ok(Region {
+        carried,
+        copied,
+        induct: induct_of(c, body),
+    })
 }

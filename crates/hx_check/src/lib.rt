@@ -5,6 +5,7 @@
 mod carried;
 pub mod check;
 pub mod checked;
+mod counter;
 mod declare;
 pub mod error;
 mod expression;

@@ -49,21 +49,34 @@ pub enum Simple {
     Assign(Assignment),
 }
 
+/// A private word that is counted, and by how much.
+#[derive(Clone, Copy, PartialEq, Eq, Debug)]
+pub struct Induct {
+    pub private: u32,
+    pub step: i32,
+}
+
 /// What stands between the parentheses of a loop: what goes before it, the test of each turn, and
 /// the step at the end of each.
+///
+/// `counts` is what the step counts, where it is written `x++`, `x--`, `x += N` or `x -= N` with a
+/// local `x` and a number token `N`.
 #[derive(Drop)]
 pub struct Clauses {
     pub init: Vec<Simple>,
     pub test: Option<Expr>,
     pub step: Option<Assignment>,
+    pub counts: Option<Induct>,
 }
 
 /// The private words that a region takes along, both lists in rising order: those that its turns
-/// assign, and those that they only read.
+/// assign, and those that they only read. The induction local, if there is one, is in neither: a
+/// turn's number tells its value.
 #[derive(Drop)]
 pub struct Region {
     pub carried: Vec<u32>,
     pub copied: Vec<u32>,
+    pub induct: Option<Induct>,
 }
 
 /// A loop that runs turn after turn, or a marked loop that stands in no other marked loop of its

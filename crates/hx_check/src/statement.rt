@@ -11,6 +11,7 @@ ghost use Rattle.hx_check.specs.Views.{symbols_in, scopes_of, known_of, resolved
 ghost use Rattle.hx_check.specs.Reading.{IsReading, IsReadingNow, check_locals, check_init, check_clauses, check_return, check_stmt, check_part, check_parts, make_loop};
 
 use crate::carried::region_of;
+use crate::counter::step_counts;
 use crate::error::CheckError;
 use crate::expression::{arguments, assignment, expression, step, test, value_or_zero};
 use crate::here::Here;
@@ -132,6 +133,7 @@ fn while_clauses(alloc: Global, condition: Expr) -> Clauses
         init: Vec::new(alloc),
         test: Some(condition),
         step: None,
+        counts: None,
     }
 }
 
@@ -147,7 +149,13 @@ fn for_clauses(
     let init = init(alloc, &head.init, symbols, locals)?;
     let test = test(alloc, &head.test, symbols, &locals.scopes)?;
     let step = step(alloc, &head.step, symbols, &locals.scopes)?;
-    Ok(Clauses { init, test, step })
+    let counts = step_counts(&head.step, &locals.scopes);
+    Ok(Clauses {
+        init,
+        test,
+        step,
+        counts,
+    })
 }
 
 /// An assignment as a statement, wherever it stands.

@@ -1,22 +1,23 @@
 -- The words of a region keep the rules, where its body's words do in both versions.
-use Rattle.std.proofs.Common.{◌≡◌, ℕ, zero, suc, ◌+◌, ◌≤◌, ◌<◌, ◌≢◌, Bool, true, false, List, [], ◌∷◌, ◌++◌, length, Some, None, refl, sym, ap, subst, ◌∙◌, arith, if◌then◌else◌, length-append, append_assoc}
-use Rattle.std.specs.Prelude.{slice_get, nat_eq}
+use Rattle.std.proofs.Common.{◌≡◌, ℕ, zero, suc, ◌+◌, ◌≤◌, ◌<◌, ◌≢◌, Bool, true, false, List, [], ◌∷◌, ◌++◌, length, Option, Some, None, refl, sym, ap, subst, ◌∙◌, arith, if◌then◌else◌, length-append, append_assoc}
+use Rattle.std.specs.Prelude.{slice_get, nat_eq, option_map}
 use Rattle.std.specs.List.{AllByRecursion}
 use Rattle.std.proofs.lemmas.List.Elements.{All-from_recursion}
 use Rattle.std.proofs.lemmas.Option.{slice_get_within}
 use Rattle.hx_tree.specs.declared.limits.TheConstants.{CELL_LIMIT}
+use Rattle.hx_check.specs.declared.resolved.Induct as counted
 use Rattle.hx_check.specs.Resolved as resolved
 use Rattle.hx_check.specs.Resolved.{Clauses}
 use Rattle.hx_code.specs.declared.word.Word.TheVariants.{Enter}
 use Rattle.hx_code.specs.declared.table.Spot.{Spot}
 use Rattle.hx_code.specs.declared.table.Carried.{Carried}
 use Rattle.hx_code.specs.Code.{RegionView, CodeView}
-use Rattle.hx_code.specs.Valid.{AreDistinctBy, InFunction, IsPrivate, IsSpotAt, CarriesWell}
+use Rattle.hx_code.specs.Valid.{AreDistinctBy, InFunction, IsPrivate, IsOnlyCounter, IsCounterOrNone, IsSpotAt, CarriesWell}
 use Rattle.hx_lowering.specs.Size.{turn_size}
 use Rattle.hx_lowering.specs.Lines.{Version, cell_of}
-use Rattle.hx_lowering.specs.Draft.{Draft, Targets, cells_from, inside, put_word, plain_draft, turns_draft, region_at, region_draft}
+use Rattle.hx_lowering.specs.Draft.{Draft, Targets, cells_from, counter_of, inside, put_word, plain_draft, turns_draft, region_at, region_draft}
 use Rattle.hx_lowering.proofs.Stand.{spot_stands, length-put}
-use Rattle.hx_lowered.proofs.WellFormed.{Context, RisesBy, IsRising, FitsRegion, FitsTest, FitsStep}
+use Rattle.hx_lowered.proofs.WellFormed.{Context, RisesBy, IsRising, FitsInduct, FitsRegion, FitsTest, FitsStep}
 use Rattle.hx_lowered.proofs.Fine.{same_some, each_so, spot_of, Sits, Good, Fine, fine_and, fine_enter, Knows, private_known, sits_at}
 use Rattle.hx_lowered.proofs.Drafts.{Holds, Grows, plain_grows, turns_grows}
 use Rattle.hx_lowered.proofs.Loops.{DraftPart, LoopBody, plain_part, turns_part}
@@ -100,6 +101,15 @@ module _ (code : CodeView) (x : Context) (v : Version) (knows : Knows code x v) 
     counts = knows.counts;
   }
 
+  -- the counter is a private word of the function, and in neither list
+  counter_apart : (o : Option counted.Induct) (carried copied : List ℕ) → FitsInduct x o carried copied → IsOnlyCounter (option_map counter_of o) (cells_from carried 0) copied
+  counter_apart None carried copied f = tt
+  counter_apart (Some i) carried copied f = (All-from_recursion _ _ (each_private (λ k. k ≢ i.private) carried 0 f.1), All-from_recursion _ _ f.2)
+
+  counter_known : (o : Option counted.Induct) (carried copied : List ℕ) → FitsInduct x o carried copied → IsCounterOrNone code v.function (option_map counter_of o)
+  counter_known None carried copied f = tt
+  counter_known (Some i) carried copied f = private_known code x v knows i.private f.0
+
   carries : (number size place : ℕ) (r : resolved.Region) (c : Clauses) → FitsRegion x r → Sits code (inside number r v) (place + 1) 0 → CarriesWell code (region_at r c size place)
   carries number size place r c f begins = record {
     cells = rising_distinct _ _ (cells_rise r.carried 0);
@@ -109,9 +119,11 @@ module _ (code : CodeView) (x : Context) (v : Version) (knows : Knows code x v) 
     apart = λ i j d e lt le same.
         All-from_recursion (λ y. y ≢ _) r.copied (All-from_recursion (λ (g : Carried). AllByRecursion (λ y. y ≢ g.private) r.copied) (cells_from r.carried 0)
         (each_private (λ k. AllByRecursion (λ y. y ≢ k) r.copied) r.carried 0 f.apart) i d lt) j e le (sym same);
+    counter = counter_apart r.induct r.carried r.copied f.induct;
     known = λ s e. subst (λ g. InFunction code (region_at r c size place) g) (ap (λ (t : Spot). t.function) (same_some _ _ _ begins e)) (record {
       carried = All-from_recursion _ _ (each_private (IsPrivate code v.function) r.carried 0 (each_so _ _ (private_known code x v knows) r.carried f.carried));
       copied = All-from_recursion _ _ (each_so _ _ (private_known code x v knows) r.copied f.copied);
+      counter = counter_known r.induct r.carried r.copied f.induct;
     });
   }
 

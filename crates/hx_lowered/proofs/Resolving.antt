@@ -35,7 +35,7 @@ module _ (c : Context) (kinds : Map Kind) (symbols : Map Symbol) (agree : (x : L
 
   loop_fits : (marked m l : Bool) (h : resolved.Clauses) (body : resolved.Stmt) → FitsClauses c h → FitsStmt c true (m || marked) body → FitsStmt c l m (loop_in marked (setting m) h body)
   loop_fits true true l h body f g = (f, tt, g)
-  loop_fits true false l h body f g = (f, (refl, region_fits c h body few), g)
+  loop_fits true false l h body f g = (f, (refl, region_fits c h body few f.0), g)
   loop_fits false true l h body f g = (f, tt, g)
   loop_fits false false l h body f g = (f, tt, g)
 

@@ -6,6 +6,7 @@ use Rattle.std.specs.List.{AllByRecursion}
 use Rattle.hx_tree.specs.declared.limits.TheConstants.{FUNCTION_LIMIT, PARAMETER_LIMIT, PRIVATE_LIMIT, OPERAND_LIMIT, GLOBAL_LIMIT, CELL_LIMIT}
 use Rattle.hx_tree.specs.declared.tree.BinaryOp.TheVariants.{Strict, And, Or}
 use Rattle.hx_check.specs.declared.resolved.Words.{Words}
+use Rattle.hx_check.specs.declared.resolved.Induct.{Induct}
 use Rattle.hx_check.specs.Resolved.{Expr, Number, Private, Word, Element, Call, Unary, Binary, Exprs, no_exprs, expr_and, ToPrivate, ToWord, ToElement, Assignment, Set, Update, Simple, Declare, Assign, Clauses, Region, LoopKind, Plain, IsRegion, Stmt, Block, Do, CallStatement, Print, Emit, If, IfElse, Loop, Break, Continue, Return, Stmts, no_stmts, stmt_and, Function, Program}
 use Rattle.hx_lowering.specs.Lines.{count}
 
@@ -76,6 +77,11 @@ IsRising xs = RisesBy (λ k. k) xs
 abbrev pub ShareNone : List ℕ → List ℕ → Type 0
 ShareNone xs ys = AllByRecursion (λ x. AllByRecursion (λ y. y ≢ x) ys) xs
 
+-- an induction local is a private word of the function, and in neither list
+abbrev pub FitsInduct : Context → Option Induct → (carried copied : List ℕ) → Type 0
+FitsInduct c None carried copied = Unit {0}
+FitsInduct c (Some i) carried copied = (i.private < c.privates) × AllByRecursion (λ k. k ≢ i.private) carried × AllByRecursion (λ k. k ≢ i.private) copied
+
 -- the private words of a region are distinct ones of the function, and the carried ones have a cell each
 pub record FitsRegion (c : Context) (r : Region) : Type 0 where
   pub carried_rise : IsRising r.carried
@@ -84,6 +90,7 @@ pub record FitsRegion (c : Context) (r : Region) : Type 0 where
   pub carried : AllByRecursion (λ k. k < c.privates) r.carried
   pub copied : AllByRecursion (λ k. k < c.privates) r.copied
   pub few : length r.carried ≤ CELL_LIMIT
+  pub induct : FitsInduct c r.induct r.carried r.copied
 
 -- a region stands in no region
 abbrev pub FitsKind : Context → (marked : Bool) → LoopKind → Type 0

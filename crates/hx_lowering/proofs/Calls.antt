@@ -143,7 +143,7 @@ module _ (p : Program) (accepted : IsAccepted p) where
         (λ m' at'.
         let d = call_at (length last.lines) ps (pos 0 ∷ []) in
         let back = returns_back C K d d at'.memory (pos 0) (ap (λ word. wants_of word d) (word_stands C V 1 Ret last.lines has_ret.lines)) in
-        record {
+        λ always. record {
           steps = 1;
           enough = omega arith;
           holds = record { memory = at'.memory; back = subst (λ q. Back C K (pos 0) at'.memory (machine_step C q)) (sym at'.is) back; world = at'.world; room = at'.room; cells_are = λ cs e a. at'.cells_are a ∙ holds.freezes cs e };

@@ -1,4 +1,6 @@
 pub mod Globals
+pub mod Ranged
+pub mod Counters
 pub mod Follow
 pub mod Setting
 pub mod Stand
@@ -10,6 +12,7 @@ pub mod Drafts
 pub mod Scene
 pub mod Writes
 pub mod Assigns
+pub mod Counted
 pub mod Loops
 pub mod Regions
 pub mod Marked
@@ -18,6 +21,9 @@ pub mod Functions
 pub mod Placed
 pub mod Opening
 pub mod Begins
+pub mod Kept
+pub mod Constants
+pub mod Numbers
 pub mod Programs
 pub mod Locals
 pub mod Cells

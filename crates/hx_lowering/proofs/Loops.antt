@@ -12,6 +12,7 @@ use Rattle.hx_check.specs.Resolved as resolved
 use Rattle.hx_check.specs.Resolved.{Clauses, Simple}
 use Rattle.hx_check.specs.Symbols.{Scopes, symbols_of}
 use Rattle.hx_check.specs.Carried.{expr_reads, assignment_reads, assigns, if_any}
+use Rattle.hx_check.specs.Counts.{step_counts}
 use Rattle.hx_check.specs.Resolve.{resolve_expr, resolve_assignment}
 use Rattle.hx_code.specs.declared.word.Word.TheVariants.{Jump, JumpFalse}
 use Rattle.hx_code.specs.Code.{CodeView}
@@ -85,6 +86,7 @@ module _ (p : Program) (code : CodeView) (words : code.globals ≡ words_in (lay
     init = init;
     test = option_map (λ e. resolve_expr e (symbols_of p) scopes) test;
     step = option_map (λ a. resolve_assignment a (symbols_of p) scopes) step;
+    counts = step_counts step scopes;
   }
 
   pub plain_follows : (s : Scene) (marked : Bool) (c : Context) (next : ℕ) (scopes : Scopes) → Tidy next scopes → next ≤ s.privates → (here : Surroundings) → Around p scopes here
@@ -121,13 +123,13 @@ module _ (p : Program) (code : CodeView) (words : code.globals ≡ words_in (lay
       let Done = Ends p code s scopes (length d4.lines) in
       let env0 = env_of scopes (held s ps cells) in
       subst (λ b. Follows code c.turns m (loop c.turns b (value_or (pos 1) test (call_in c)) body (step_of step (call_in c)) env0 w) Done) (sym none)
-      (turns_follow p code si scopes start (length d1.lines) (length d3.lines) false (value_or (pos 1) test (call_in c)) body (step_of step (call_in c)) Done
-      (λ n le ps' cells' holds' w' m' at' f g kf kg. test_here si fair next scopes tidy fits here around test ok_test free_test n exit le ps' cells' d.lines has1.lines w' m' at' f g Done kf kg)
-      (λ ps' cells' holds' w' m' at'. subst (λ q. Follows code c.turns m' (body (env_of scopes (held s ps' cells')) w') (Ends p code si scopes q)) at_step (hb ps' cells' (outer_holds ps' cells' holds') w' m' at' has2))
-      (λ env' w' m' stands. step_here si fair next scopes tidy fits here around step ok_step free_step loose_step d2.lines has3.lines env' w' m'
+      (turns_follow p code (λ j. si) c.turns scopes start (length d1.lines) (λ j. Stands p code si scopes (length d3.lines)) false (value_or (pos 1) test (call_in c)) body (step_of step (call_in c)) Done
+      (λ n j le ps' cells' holds' w' m' at' f g kf kg. test_here si fair next scopes tidy fits here around test ok_test free_test n exit le ps' cells' d.lines has1.lines w' m' at' f g Done kf kg)
+      (λ j ps' cells' holds' w' m' at'. subst (λ q. Follows code c.turns m' (body (env_of scopes (held s ps' cells')) w') (Ends p code si scopes q)) at_step (hb ps' cells' (outer_holds ps' cells' holds') w' m' at' has2))
+      (λ j env' w' m' stands. step_here si fair next scopes tidy fits here around step ok_step free_step loose_step d2.lines has3.lines env' w' m'
       (subst (λ q. Stands p code si scopes q env' w' m') (sym at_step) stands))
-      (λ n env' w' m' next stands k. turns_back p code s.ground n (length d3.lines) start stands.ps stands.ps [] [] stands.cells w' m' (Jump start) (next env' w') Done stands.at (word_stands code v 0 (Jump start) d3.lines has.lines) refl
-      (λ m'' at''. k stands.ps stands.cells stands.holds w' m'' at'' stands.env_is))
-      (λ n env' w' m' stands. at_once code m' (λ m''. Stands p code s scopes (length d4.lines) env' w' m'') (record { ps = stands.ps; cells = stands.cells; holds = outer_holds stands.ps stands.cells stands.holds; at = at_place p code s.ground exit (length d4.lines) stands.ps [] stands.cells w' m' at_exit stands.at; env_is = stands.env_is }))
-      (λ n z env' w' m' came. at_once code m' (λ m''. Came p code s z w' m'') (record { memory = came.memory; back = came.back; world = came.world; room = came.room; cells_are = came.cells_are }))
-      c.turns (omega arith) ps cells (inner ps cells holds) w m at)
+      (λ n j env' w' m' next stands k. turns_back p code s.ground n (length d3.lines) start stands.ps stands.ps [] [] stands.cells w' m' (Jump start) (next env' w') Done stands.at (word_stands code v 0 (Jump start) d3.lines has.lines) refl
+      (λ m'' at''. k j stands.ps stands.cells stands.holds w' m'' at'' stands.env_is))
+      (λ n j env' w' m' stands. at_once code m' (λ m''. Stands p code s scopes (length d4.lines) env' w' m'') (record { ps = stands.ps; cells = stands.cells; holds = outer_holds stands.ps stands.cells stands.holds; at = at_place p code s.ground exit (length d4.lines) stands.ps [] stands.cells w' m' at_exit stands.at; env_is = stands.env_is }))
+      (λ n j z env' w' m' came. at_once code m' (λ m''. Came p code s z w' m'') (record { memory = came.memory; back = came.back; world = came.world; room = came.room; cells_are = came.cells_are }))
+      c.turns (omega arith) 0 ps cells (inner ps cells holds) w m at)

@@ -22,7 +22,8 @@ use Rattle.hx_code.specs.Machine.{Machine, by_end, machine_step, machine_after, 
 use Rattle.hx_lowering.specs.Correct.{Shows, run, Behaves}
 use Rattle.hx_lowering.specs.Draft.{function_at, code_of}
 use Rattle.hx_lowering.proofs.Globals.{words_in}
-use Rattle.hx_lowering.proofs.Follow.{Follows, follows_so, after-sum}
+use Rattle.hx_lowering.proofs.Follow.{Always, Follows, follows_so, after-sum}
+use Rattle.hx_lowering.proofs.Numbers.{always_numbers}
 use Rattle.hx_lowering.proofs.Calls.{C, F, it_stands, scene, runs_function, calls_follow}
 use Rattle.hx_lowering.proofs.Setting.{Memory, Outside, Ended}
 use Rattle.hx_lowering.proofs.At.{layout_of, world_at, At, at_place, shows}
@@ -84,7 +85,7 @@ module _ (p : Program) (accepted : IsAccepted p) where
   unfolding main_stands
   runs input room n =
       let m0 = opening_machine code_here input in
-      let memory : Memory = record { store = opening_store code_here input; text = []; turns = 0; regions = 0; iteration = 0 } in
+      let memory : Memory = record { store = opening_store code_here input; text = []; turns = 0; regions = 0 } in
       let cells = drop (words_in (layout_of p)) (opening_store code_here input) in
       let start : At p code_here (Outside []) (length main_stands.before.lines) blank [] cells (opening_world p input) m0 =
       at_place p code_here (Outside []) (code.main_of code_here).entry (length main_stands.before.lines) blank [] cells (opening_world p input) m0 main_entry
@@ -99,26 +100,36 @@ module _ (p : Program) (accepted : IsAccepted p) where
 
   -- ---- both ways
 
-  shown_so : (input : List ℤ) (n : ℕ) (a : Answer ℤ) (r : Ending) → Follows code_here n (opening_machine code_here input) a Over → ending_of_main a ≡ Some r → (j : ℕ) × Shows code_here (run code_here input j) r
-  shown_so input n (Gives v w) r follows is = let same : ending (end.Normal v) w ≡ r = cc in (follows.steps, subst (Shows code_here (run code_here input follows.steps)) same follows.holds)
-  shown_so input n (Faults f w) r follows is = let same : ending (end.Fault f) w ≡ r = cc in (follows.steps, subst (Shows code_here (run code_here input follows.steps)) same follows.holds)
-  shown_so input n Unfinished r follows is = absurd cc
+  shown_so : (input : List ℤ) → Always code_here (opening_machine code_here input) → (n : ℕ) (a : Answer ℤ) (r : Ending) → Follows code_here n (opening_machine code_here input) a Over → ending_of_main a ≡ Some r → (j : ℕ) × Shows code_here (run code_here input j) r
+  shown_so input always n (Gives v w) r follows is =
+      let same : ending (end.Normal v) w ≡ r = cc in
+      let q = follows always in
+      (q.steps, subst (Shows code_here (run code_here input q.steps)) same q.holds)
+  shown_so input always n (Faults f w) r follows is =
+      let same : ending (end.Fault f) w ≡ r = cc in
+      let q = follows always in
+      (q.steps, subst (Shows code_here (run code_here input q.steps)) same q.holds)
+  shown_so input always n Unfinished r follows is = absurd cc
 
-  meant_so : (input : List ℤ) (n : ℕ) (e : End) → (run code_here input n).end ≡ Some e → (a : Answer ℤ) → Follows code_here n (opening_machine code_here input) a Over → (r : Ending) × (ending_of_main a ≡ Some r) × Shows code_here (run code_here input n) r
-  meant_so input n e over (Gives v w) follows =
-      (ending (end.Normal v) w, refl, subst (λ m. Shows code_here m (ending (end.Normal v) w)) (one_end code_here (opening_machine code_here input) _ e follows.steps n follows.holds.finish over) follows.holds)
-  meant_so input n e over (Faults f w) follows =
-      (ending (end.Fault f) w, refl, subst (λ m. Shows code_here m (ending (end.Fault f) w)) (one_end code_here (opening_machine code_here input) _ e follows.steps n follows.holds.finish over) follows.holds)
-  meant_so input n e over Unfinished follows =
-      let still : (run code_here input follows.steps).end ≡ Some e = ap (λ (m : Machine). m.end) (later_same code_here (opening_machine code_here input) e n follows.steps follows.enough over) ∙ over in
-      let none : None ≡ Some e = sym follows.holds ∙ still in
+  meant_so : (input : List ℤ) → Always code_here (opening_machine code_here input) → (n : ℕ) (e : End) → (run code_here input n).end ≡ Some e → (a : Answer ℤ) → Follows code_here n (opening_machine code_here input) a Over
+      → (r : Ending) × (ending_of_main a ≡ Some r) × Shows code_here (run code_here input n) r
+  meant_so input always n e finished (Gives v w) follows =
+      let q = follows always in
+      (ending (end.Normal v) w, refl, subst (λ m. Shows code_here m (ending (end.Normal v) w)) (one_end code_here (opening_machine code_here input) _ e q.steps n q.holds.finish finished) q.holds)
+  meant_so input always n e finished (Faults f w) follows =
+      let q = follows always in
+      (ending (end.Fault f) w, refl, subst (λ m. Shows code_here m (ending (end.Fault f) w)) (one_end code_here (opening_machine code_here input) _ e q.steps n q.holds.finish finished) q.holds)
+  meant_so input always n e finished Unfinished follows =
+      let q = follows always in
+      let still : (run code_here input q.steps).end ≡ Some e = ap (λ (m : Machine). m.end) (later_same code_here (opening_machine code_here input) e n q.steps q.enough finished) ∙ finished in
+      let none : None ≡ Some e = sym q.holds ∙ still in
       absurd cc
 
   pub behaves : Behaves p code_here
   behaves = record {
     fits = λ input. (λ fit. subst (λ n. length input ≤ n) (room_is p accepted) fit, λ fit. subst (λ n. length input ≤ n) (sym (room_is p accepted)) fit);
-    ends = λ input room r means. shown_so input means.0 _ r (runs input room means.0) means.1;
-    ends_only = λ input room n e over.
-        let found = meant_so input n e over (run_function (main_of p) [] (main_context p n) (opening_world p input)) (runs input room n) in
+    ends = λ input numbers room r means. shown_so input (always_numbers p accepted input numbers room) means.0 _ r (runs input room means.0) means.1;
+    ends_only = λ input numbers room n e finished.
+        let found = meant_so input (always_numbers p accepted input numbers room) n e finished (run_function (main_of p) [] (main_context p n) (opening_world p input)) (runs input room n) in
         (found.0, (n, found.1), found.2);
   }

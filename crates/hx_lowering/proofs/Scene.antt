@@ -89,46 +89,46 @@ module _ (p : Program) (code : CodeView) where
   abbrev pub Ends : Scene → Scopes → ℕ → Exit × Environment → World → Machine → Type 0
   Ends s scopes place out w m = EndsBy s scopes place out.0 out.1 w m
 
-  -- the turns of a loop that begin at start, where its body has the targets of the scene
-  pub turns_follow : (s : Scene) (scopes : Scopes) (start after behind : ℕ) (counted : Bool) (test : Environment → Run ℤ) (body : Environment → Effect) (step : Environment → Run Environment) (Done : Exit × Environment → World → Machine → Type 0)
-      → ((n : ℕ) → n ≤ s.context.turns → (ps cells : List ℤ) → Holds s ps cells → (w : World) (m : Machine) → At p code s.ground start ps [] cells w m → (f g : Run (Exit × Environment))
-      → ((w' : World) (m' : Machine) → At p code s.ground s.to.break_to ps [] cells w' m' → Follows code n m' (f w') Done)
-      → ((w' : World) (m' : Machine) → At p code s.ground after ps [] cells w' m' → Follows code n m' (g w') Done)
-      → Follows code n m ((test (env_of scopes (held s ps cells)) >>= (λ v. if is_zero v then f else g)) w) Done)
-      → ((ps cells : List ℤ) → Holds s ps cells → (w : World) (m : Machine) → At p code s.ground after ps [] cells w m → Follows code s.context.turns m (body (env_of scopes (held s ps cells)) w) (Ends s scopes s.to.continue_to))
-      → ((env : Environment) (w : World) (m : Machine) → Stands s scopes s.to.continue_to env w m → Follows code s.context.turns m (step env w) (λ env' w' m'. Stands s scopes behind env' w' m'))
-      → ((n : ℕ) (env : Environment) (w : World) (m : Machine) (next : Environment → Effect) → Stands s scopes behind env w m
-      → ((ps cells : List ℤ) → Holds s ps cells → (w' : World) (m' : Machine) → At p code s.ground start ps [] cells w' m' → env ≡ env_of scopes (held s ps cells) → Follows code n m' (next env w') Done)
+  -- the turns of a loop that begin at start, where its body has the targets of the scene; each turn has a scene of its own
+  pub turns_follow : (S : ℕ → Scene) (most : ℕ) (scopes : Scopes) (start after : ℕ) (Behind : ℕ → Environment → World → Machine → Type 0) (counted : Bool) (test : Environment → Run ℤ) (body : Environment → Effect) (step : Environment → Run Environment) (Done : Exit × Environment → World → Machine → Type 0)
+      → ((n j : ℕ) → n ≤ most → (ps cells : List ℤ) → Holds (S j) ps cells → (w : World) (m : Machine) → At p code (S j).ground start ps [] cells w m → (f g : Run (Exit × Environment))
+      → ((w' : World) (m' : Machine) → At p code (S j).ground (S j).to.break_to ps [] cells w' m' → Follows code n m' (f w') Done)
+      → ((w' : World) (m' : Machine) → At p code (S j).ground after ps [] cells w' m' → Follows code n m' (g w') Done)
+      → Follows code n m ((test (env_of scopes (held (S j) ps cells)) >>= (λ v. if is_zero v then f else g)) w) Done)
+      → ((j : ℕ) (ps cells : List ℤ) → Holds (S j) ps cells → (w : World) (m : Machine) → At p code (S j).ground after ps [] cells w m → Follows code most m (body (env_of scopes (held (S j) ps cells)) w) (Ends (S j) scopes (S j).to.continue_to))
+      → ((j : ℕ) (env : Environment) (w : World) (m : Machine) → Stands (S j) scopes (S j).to.continue_to env w m → Follows code most m (step env w) (Behind j))
+      → ((n j : ℕ) (env : Environment) (w : World) (m : Machine) (next : Environment → Effect) → Behind j env w m
+      → ((j' : ℕ) (ps cells : List ℤ) → Holds (S j') ps cells → (w' : World) (m' : Machine) → At p code (S j').ground start ps [] cells w' m' → env ≡ env_of scopes (held (S j') ps cells) → Follows code n m' (next env w') Done)
       → Follows code (suc n) m ((count_turn counted >>= (λ done. next env)) w) Done)
-      → ((n : ℕ) (env : Environment) (w : World) (m : Machine) → Stands s scopes s.to.break_to env w m → Follows code n m (goes_on env w) Done)
-      → ((n : ℕ) (v : ℤ) (env : Environment) (w : World) (m : Machine) → Came s v w m → Follows code n m (Gives (Returns v, env) w) Done)
-      → (n : ℕ) → n ≤ s.context.turns → (ps cells : List ℤ) → Holds s ps cells → (w : World) (m : Machine) → At p code s.ground start ps [] cells w m
-      → Follows code n m (loop n counted test body step (env_of scopes (held s ps cells)) w) Done
-  turns_follow s scopes start after behind counted test body step Done ht hb hs again leaves returned zero le ps cells holds w m at =
-      ht zero le ps cells holds w m at (goes_on (env_of scopes (held s ps cells))) unfinished
-      (λ w' m' at'. leaves zero _ w' m' (record { ps = ps; cells = cells; holds = holds; at = at'; env_is = refl }))
-      (λ w' m' at'. record { steps = 0; enough = omega arith; holds = not_over p code s.ground after ps [] cells w' m' at' })
-  turns_follow s scopes start after behind counted test body step Done ht hb hs again leaves returned (suc n) le ps cells holds w m at =
-      let env = env_of scopes (held s ps cells) in
+      → ((n j : ℕ) (env : Environment) (w : World) (m : Machine) → Stands (S j) scopes (S j).to.break_to env w m → Follows code n m (goes_on env w) Done)
+      → ((n j : ℕ) (v : ℤ) (env : Environment) (w : World) (m : Machine) → Came (S j) v w m → Follows code n m (Gives (Returns v, env) w) Done)
+      → (n : ℕ) → n ≤ most → (j : ℕ) (ps cells : List ℤ) → Holds (S j) ps cells → (w : World) (m : Machine) → At p code (S j).ground start ps [] cells w m
+      → Follows code n m (loop n counted test body step (env_of scopes (held (S j) ps cells)) w) Done
+  turns_follow S most scopes start after Behind counted test body step Done ht hb hs again leaves returned zero le j ps cells holds w m at =
+      ht zero j le ps cells holds w m at (goes_on (env_of scopes (held (S j) ps cells))) unfinished
+      (λ w' m' at'. leaves zero j _ w' m' (record { ps = ps; cells = cells; holds = holds; at = at'; env_is = refl }))
+      (λ w' m' at' always. record { steps = 0; enough = omega arith; holds = not_over p code (S j).ground after ps [] cells w' m' at' })
+  turns_follow S most scopes start after Behind counted test body step Done ht hb hs again leaves returned (suc n) le j ps cells holds w m at =
+      let env = env_of scopes (held (S j) ps cells) in
       let next = loop n counted test body step in
-      let more : (env' : Environment) (w' : World) (m' : Machine) → Stands s scopes s.to.continue_to env' w' m'
+      let more : (env' : Environment) (w' : World) (m' : Machine) → Stands (S j) scopes (S j).to.continue_to env' w' m'
       → Follows code (suc n) m' ((step env' >>= (λ env''. count_turn counted >>= (λ done. next env''))) w') Done = λ env' w' m' stands.
-      follows_then code (suc n) m' (step env' w') (λ env''. count_turn counted >>= (λ done. next env'')) (λ env'' w'' m''. Stands s scopes behind env'' w'' m'') Done
-      (follows_fewer code s.context.turns (suc n) m' (step env' w') _ le (hs env' w' m' stands))
-      (λ env'' w'' m'' stands'. again n env'' w'' m'' next stands'
-      (λ ps' cells' holds' w3 m3 at3 env_is. subst (λ x. Follows code n m3 (next x w3) Done) (sym env_is)
-      (turns_follow s scopes start after behind counted test body step Done ht hb hs again leaves returned n (omega arith) ps' cells' holds' w3 m3 at3))) in
-      ht (suc n) le ps cells holds w m at (goes_on env) (body env >>= (λ out. end_turn out.0 counted step next out.1))
-      (λ w' m' at'. leaves (suc n) _ w' m' (record { ps = ps; cells = cells; holds = holds; at = at'; env_is = refl }))
-      (λ w' m' at'. follows_then code (suc n) m' (body env w') (λ out. end_turn out.0 counted step next out.1) (Ends s scopes s.to.continue_to) Done
-      (follows_fewer code s.context.turns (suc n) m' (body env w') _ le (hb ps cells holds w' m' at'))
+      follows_then code (suc n) m' (step env' w') (λ env''. count_turn counted >>= (λ done. next env'')) (Behind j) Done
+      (follows_fewer code most (suc n) m' (step env' w') _ le (hs j env' w' m' stands))
+      (λ env'' w'' m'' behind. again n j env'' w'' m'' next behind
+      (λ j' ps' cells' holds' w3 m3 at3 env_is. subst (λ x. Follows code n m3 (next x w3) Done) (sym env_is)
+      (turns_follow S most scopes start after Behind counted test body step Done ht hb hs again leaves returned n (omega arith) j' ps' cells' holds' w3 m3 at3))) in
+      ht (suc n) j le ps cells holds w m at (goes_on env) (body env >>= (λ out. end_turn out.0 counted step next out.1))
+      (λ w' m' at'. leaves (suc n) j _ w' m' (record { ps = ps; cells = cells; holds = holds; at = at'; env_is = refl }))
+      (λ w' m' at'. follows_then code (suc n) m' (body env w') (λ out. end_turn out.0 counted step next out.1) (Ends (S j) scopes (S j).to.continue_to) Done
+      (follows_fewer code most (suc n) m' (body env w') _ le (hb j ps cells holds w' m' at'))
       (λ out w'' m'' ends. ended out.0 out.1 w'' m'' ends more))
     where
-      ended : (exit : Exit) (env' : Environment) (w' : World) (m' : Machine) → EndsBy s scopes s.to.continue_to exit env' w' m'
-          → ((env' : Environment) (w' : World) (m' : Machine) → Stands s scopes s.to.continue_to env' w' m'
+      ended : (exit : Exit) (env' : Environment) (w' : World) (m' : Machine) → EndsBy (S j) scopes (S j).to.continue_to exit env' w' m'
+          → ((env' : Environment) (w' : World) (m' : Machine) → Stands (S j) scopes (S j).to.continue_to env' w' m'
           → Follows code (suc n) m' ((step env' >>= (λ env''. count_turn counted >>= (λ done. loop n counted test body step env''))) w') Done)
           → Follows code (suc n) m' (end_turn exit counted step (loop n counted test body step) env' w') Done
       ended GoesOn env' w' m' ends more = more env' w' m' ends
       ended Continues env' w' m' ends more = more env' w' m' ends.1
-      ended Breaks env' w' m' ends more = leaves (suc n) env' w' m' ends.1
-      ended (Returns v) env' w' m' ends more = returned (suc n) v env' w' m' ends
+      ended Breaks env' w' m' ends more = leaves (suc n) j env' w' m' ends.1
+      ended (Returns v) env' w' m' ends more = returned (suc n) j v env' w' m' ends

@@ -14,16 +14,15 @@ use Rattle.hx_code.specs.declared.word.Exit.TheVariants as exit
 use Rattle.hx_code.specs.Code.{CodeView, region_of}
 use Rattle.hx_code.specs.Call.{at_place, CallView, Asks, wants_at, fault_at, bytes_of}
 use Rattle.hx_code.specs.Local.{LocalView, by_want, pushed, begun}
-use Rattle.hx_code.specs.Region.{held, Opened, RegionState, region_want, into_cells, from_cells, iteration_words}
+use Rattle.hx_code.specs.Region.{held, Opened, RegionState, region_want, into_cells, from_cells, with_counter, iteration_words}
 use Rattle.hx_code.specs.Machine.{Machine, machine_step, does_want, region_next, opened_by, returns}
 
--- what a call changes beside itself: the store, the text and the whole turns since it was told of, and counts that no program sees
+-- what a call changes beside itself: the store, the text and the whole turns since it was told of, and a count that no program sees
 pub record Memory : Type 0 where
   pub store : List ℤ
   pub text : List ℕ
   pub turns : ℕ
   pub regions : ℕ
-  pub iteration : ℕ
 
 abbrev pub with_store : Memory → List ℤ → Memory
 with_store m st = record m { store = st }
@@ -108,7 +107,7 @@ held_more a b = omega arith
 pub held_one : (n : ℕ) → held (held n + 1) ≡ held (n + 1)
 held_one n = omega arith
 
--- the call that opened the region, the calls below it, and what was before
+-- the call that opened the region, the calls below it, and what was before; and the number of the iteration, modulo 2 ^ 64
 pub record Opener : Type 0 where
   pub region : ℕ
   pub call : CallView
@@ -117,6 +116,14 @@ pub record Opener : Type 0 where
   pub text : List ℕ
   pub turns : ℕ
   pub regions : ℕ
+  pub iteration : ℕ
+
+-- another iteration of the same region
+abbrev pub at_turn : Opener → ℕ → Opener
+at_turn o j = record o { iteration = j }
+
+abbrev pub next_turn : Opener → ℕ
+next_turn o = (o.iteration + 1) % 2 ^ 64
 
 abbrev pub opener_local : Opener → LocalView
 opener_local o = record { below = 0; region = None; calls = o.call ∷ o.rest }
@@ -130,7 +137,7 @@ iteration_local o rest c = record { below = (opened_so o).below; region = Some o
 abbrev pub at_iteration : Opener → List CallView → CallView → Memory → RegionState
 at_iteration o rest c m = record {
   opened = opened_so o;
-  iteration = m.iteration;
+  iteration = o.iteration;
   local = iteration_local o rest c;
   store = m.store;
   text = m.text;
@@ -186,27 +193,33 @@ inside code o rest = record {
 
 pub opens_at : (code : CodeView) (rest : List CallView) (c : CallView) (m : Memory) (r t : ℕ) → wants_at code c ≡ Asks (ask.Enters r t) c
     → machine_step code (at_outside rest c m)
-    ≡ at_inside (record { region = r; call = c; rest = rest; store = m.store; text = m.text; turns = m.turns; regions = m.regions }) []
+    ≡ at_inside (record { region = r; call = c; rest = rest; store = m.store; text = m.text; turns = m.turns; regions = m.regions; iteration = 0 }) []
     (begun (region_of code r).start (iteration_words (region_of code r) c.privates 0))
-    (record { store = into_cells code.globals (region_of code r).carried c.privates m.store; text = []; turns = 0; regions = 0; iteration = 0 })
+    (record { store = into_cells code.globals (region_of code r).carried c.privates m.store; text = []; turns = 0; regions = 0 })
 opens_at code rest c m r t e = outside_does code rest c c m _ e
 
 pub turns_at : (code : CodeView) (o : Opener) (c d : CallView) (m : Memory) → wants_at code c ≡ Asks ask.Turns d
     → machine_step code (at_inside o [] c m)
-    ≡ at_inside o [] (begun (region_of code o.region).start (iteration_words (region_of code o.region) o.call.privates ((m.iteration + 1) % 2 ^ 64)))
-    (record m { turns = m.turns + 1; iteration = (m.iteration + 1) % 2 ^ 64 })
+    ≡ at_inside (at_turn o (next_turn o)) [] (begun (region_of code o.region).start (iteration_words (region_of code o.region) o.call.privates (next_turn o)))
+    (record m { turns = m.turns + 1 })
 turns_at code o c d m e =
     inside_does code o [] c d m _ e
-    ∙ ap (λ n. record (outer o) { within = Some (record (at_iteration o [] (begun (region_of code o.region).start (iteration_words (region_of code o.region) o.call.privates ((m.iteration + 1) % 2 ^ 64))) m) { iteration = (m.iteration + 1) % 2 ^ 64; turns = n }) }) (held_one m.turns)
+    ∙ ap (λ n. record (outer o) { within = Some (record (at_iteration (at_turn o (next_turn o)) [] (begun (region_of code o.region).start (iteration_words (region_of code o.region) o.call.privates (next_turn o))) m) { turns = n }) }) (held_one m.turns)
+
+-- the private words of the call that opened the region, as it is left
+abbrev pub words_left : CodeView → Opener → List ℤ → List ℤ
+words_left code o st =
+    let g = region_of code o.region in
+    with_counter g.induct o.call.privates o.iteration (from_cells code.globals g.carried st o.call.privates)
 
 pub leaves_at : (code : CodeView) (o : Opener) (c d : CallView) (m : Memory) → wants_at code c ≡ Asks ask.Leaves d
     → machine_step code (at_inside o [] c m)
-    ≡ at_outside o.rest (record { place = (region_of code o.region).exit; privates = from_cells code.globals (region_of code o.region).carried m.store o.call.privates; operands = o.call.operands })
-    (record { store = m.store; text = o.text ++ m.text; turns = o.turns + m.turns; regions = held (o.regions + 1); iteration = 0 })
+    ≡ at_outside o.rest (record { place = (region_of code o.region).exit; privates = words_left code o m.store; operands = o.call.operands })
+    (record { store = m.store; text = o.text ++ m.text; turns = o.turns + m.turns; regions = held (o.regions + 1) })
 leaves_at code o c d m e =
     inside_does code o [] c d m _ e
     ∙ ap (λ n. record (outer o) {
-      local = record { below = 0; region = None; calls = record { place = (region_of code o.region).exit; privates = from_cells code.globals (region_of code o.region).carried m.store o.call.privates; operands = o.call.operands } ∷ o.rest };
+      local = record { below = 0; region = None; calls = record { place = (region_of code o.region).exit; privates = words_left code o m.store; operands = o.call.operands } ∷ o.rest };
       store = m.store;
       text = o.text ++ m.text;
       turns = n;
@@ -236,7 +249,7 @@ enters_plain code (Inside o rest) c m r t active e = inside_does code o rest c c
 
 -- the memory behind a region
 abbrev pub memory_behind : Opener → Memory → Memory
-memory_behind o m = record { store = m.store; text = o.text ++ m.text; turns = o.turns + m.turns; regions = held (o.regions + 1); iteration = 0 }
+memory_behind o m = record { store = m.store; text = o.text ++ m.text; turns = o.turns + m.turns; regions = held (o.regions + 1) }
 
 -- the machine once the call has returned a value
 abbrev pub OutsideBack : CodeView → List CallView → ℤ → Memory → Machine → Type 0

@@ -1,6 +1,6 @@
 -- The words of a statement do what it does.
 use Rattle.std.proofs.Common.{◌≡◌, ℕ, suc, ◌+◌, ◌≤◌, ◌<◌, Bool, true, false, List, [], ◌∷◌, ◌++◌, length, Option, Some, None, ℤ, pos, refl, sym, ap, subst, ◌∙◌, arith, if◌then◌else◌}
-use Rattle.std.specs.Prelude.{nat_eq, nat_lt, slice_index_or, slice_get, IsTrue, ◌||◌, ◌&&◌, not, ◌%◌}
+use Rattle.std.specs.Prelude.{nat_eq, nat_lt, slice_get, IsTrue, ◌||◌, ◌&&◌, not, ◌%◌}
 use Rattle.std.specs.Int.{w32, cast_unsigned}
 use Rattle.std.specs.Fmt.{signed_decimal}
 use Rattle.std.proofs.lemmas.Bool.{ltb-true}
@@ -17,7 +17,7 @@ use Rattle.hx_tree.specs.Value.{value, values}
 use Rattle.hx_tree.specs.Effect.{Exit, GoesOn, Breaks, Continues, Returns, Effect, goes_on, go_on, inside as inside_context, is_counted, loop, step_of, call_in, value_or, declare_all, begin, effect, effects, assign}
 use Rattle.hx_tree.specs.Accepted.{Surroundings, AcceptsStmt, AcceptsParts, AcceptsExpr, AcceptsReturn, AcceptsInit, AcceptsLocals, after_init, with_name, with_local, with_locals, IfThere, in_scope, inside_loop, stmt_locals, parts_locals, init_locals, FunctionKind, count as tree_count}
 use Rattle.hx_check.specs.Symbols.{Scopes, symbols_of, with_word, with_words, words_after_init}
-use Rattle.hx_check.specs.Carried.{expr_reads, stmt_reads, stmts_read, clauses_read, any_of, if_any, assignment_reads, simple_reads, assigns, simple_assigns, simple_declares, stmt_assigns, stmts_assign, stmt_declares, stmts_declare, turns_read, turns_assign}
+use Rattle.hx_check.specs.Carried.{expr_reads, stmt_reads, stmts_read, clauses_read, any_of, if_any, assignment_reads, simple_reads, assigns, simple_assigns, simple_declares, stmt_assigns, stmts_assign, stmt_declares, stmts_declare, turns_read}
 use Rattle.hx_check.specs.Resolve as resolve
 use Rattle.hx_check.specs.Resolve.{resolve_expr, resolve_exprs, function_at, resolve_assignment, resolve_stmt, resolve_parts, expr_or_zero}
 use Rattle.hx_code.specs.declared.word.Word.TheVariants.{Jump, JumpFalse, Print, Emit, Ret, Const, Call, Drop}
@@ -38,7 +38,7 @@ use Rattle.hx_lowering.proofs.Names.{env_of, names_of, Around}
 use Rattle.hx_lowering.proofs.Values.{Leaves, value_at, word_goes, jump_follows, or_left, or_right}
 use Rattle.hx_lowering.proofs.Scene.{Scene, Fair, Stands, Holds, Came, EndsBy, Ends, held, fixed_or}
 use Rattle.hx_lowering.proofs.Locals.{Tidy, tidy_more, tidy_scope, tidy_word, declare_is}
-use Rattle.hx_lowering.proofs.Taken.{unfixed_read, unfixed_write, unkept_write, own_unfixed, own_unkept}
+use Rattle.hx_lowering.proofs.Taken.{changed, changed_by_body, base_at, unfixed_read, unfixed_write, unkept_write, own_unfixed, own_unkept}
 use Rattle.hx_lowering.proofs.Declares.{reads_then, assigns_then, declares_then, draft_then, declares_from}
 use Rattle.hx_lowering.proofs.Writes.{private_written}
 use Rattle.hx_lowering.proofs.Assigns.{Free, Loose, value_here, values_here, call_here, assign_follows}
@@ -137,7 +137,7 @@ module _ (p : Program) (code : CodeView) (words : code.globals ≡ words_in (lay
   returns_it s scopes n env v h lines has ps cells holds w m place at =
       let c = call_at (length lines) ps (v ∷ []) in
       let back = returns_back code s.ground c c at.memory v (ap (λ word. wants_of word c) (word_stands code s.version h Ret lines has)) in
-      record {
+      λ always. record {
         steps = 1;
         enough = omega arith;
         holds = record { memory = at.memory; back = subst (λ x. Back code s.ground v at.memory (machine_step code x)) (sym at.is) back; world = at.world; room = at.room; cells_are = λ cs e a. at.cells_are a ∙ holds.freezes cs e };
@@ -425,7 +425,7 @@ module _ (p : Program) (code : CodeView) (words : code.globals ≡ words_in (lay
         let fits' : k ≤ s.privates = omega arith in
         let declares : (j : ℕ) → j < k → stmt_declares j rs ≡ false = λ j lt. declares_from st (resolve.inside marked (around_of p s)) scopes k j lt in
         let reads_any : ℕ → Bool = λ j. turns_read j cs rs in
-        let writes_any : ℕ → Bool = λ j. turns_assign j cs rs in
+        let writes_any : ℕ → Bool = λ j. changed cs rs j in
         loop_follows p code words marked s.is_marked s k scopes tidy fits' here around [] (Some test) None rs (λ c env. effect st c env) ok.0 tt
         (free_left s (λ j. expr_reads j rt) (λ j. false) free_clauses) (λ j e. absurd cc) (λ j e. absurd cc) fair
         (λ e v to d'. subst (λ b. (stmt_draft (resolve_stmt st (record { symbols = symbols_of p; privates = s.privates; is_marked = b }) scopes k) v to d').regions ≡ d'.regions) (sym (or_right s.is_marked marked e)) (flat_stmt st (symbols_of p) s.privates scopes k v to d'))
@@ -433,10 +433,10 @@ module _ (p : Program) (code : CodeView) (words : code.globals ≡ words_in (lay
         (λ d' fair' ps' cells' holds' w' m' at' has'. stmt_follows st _ fair' scopes (inside_loop here) (loop_in scopes here around) (λ e''. refl) k tidy fits ok.1 (free_right s (λ j. clauses_read j cs) (λ j. stmt_reads j rs) free) loose fresh _ has' ps' cells' (record { long = holds'.long; keeps = holds'.keeps; freezes = holds'.freezes }) w' m' at')
         (s.is_marked || marked)
         (λ e e' d' o number fair' ps' cells' holds' w' m' at' has'.
-        let base : ℕ → ℤ = λ j. slice_index_or o.call.privates j (pos 0) in
+        let base : ℕ → ℤ = λ j. base_at cs rs o.call.privates o.iteration j in
         stmt_follows st _ fair' scopes (inside_loop here) (loop_in scopes here around) (λ e''. refl) k tidy fits ok.1
         (λ j r. unfixed_read k reads_any writes_any base j (or_right (if_any (expr_reads j) cs.test || if_any (assignment_reads j) cs.step) (stmt_reads j rs) r))
-        (λ j r. (let a = or_right (if_any (assigns j) cs.step) (stmt_assigns j rs) r in (unfixed_write k reads_any writes_any base j a, unkept_write k reads_any writes_any base j a)))
+        (λ j r. (let a = changed_by_body cs rs j r in (unfixed_write k reads_any writes_any base j a, unkept_write k reads_any writes_any base j a)))
         (λ j r. (let own = not_below j k (stmt_declares j rs) (declares j) r in (own_unfixed k reads_any writes_any base j own, own_unkept k reads_any writes_any base j own)))
         _ has' ps' cells' holds' w' m' at')
         d has ps cells holds w m at
@@ -467,7 +467,7 @@ module _ (p : Program) (code : CodeView) (words : code.globals ≡ words_in (lay
         let fits_body : k1 + stmt_locals st ≤ s.privates = omega arith in
         let declares : (j : ℕ) → j < k1 → stmt_declares j rs ≡ false = λ j lt. declares_from st (resolve.inside marked (around_of p s)) sc1 k1 j lt in
         let reads_any : ℕ → Bool = λ j. turns_read j cs rs in
-        let writes_any : ℕ → Bool = λ j. turns_assign j cs rs in
+        let writes_any : ℕ → Bool = λ j. changed cs rs j in
         let meant : Environment → Run (Exit × Environment) = λ env'. loop n (is_counted marked s.context) (value_or (pos 1) h.test (call_in c)) (λ env''. effect st c env'') (step_of h.step (call_in c)) env' in
         let Done = Ends p code s scopes (length done.lines) in
         follows_then code n m (begin h.init (call_in s.context) (enter_scope (env_of scopes (held s ps cells))) w) (λ env'. meant env' >>= (λ out. gives (out.0, leave_scope out.1)))
@@ -484,10 +484,10 @@ module _ (p : Program) (code : CodeView) (words : code.globals ≡ words_in (lay
         (loose_right s (λ j. any_of (simple_assigns j) init || if_any (assigns j) cs.step) (λ j. stmt_assigns j rs) loose) (loose_right s (λ j. any_of (simple_declares j) init) (λ j. stmt_declares j rs) fresh) _ has' ps' cells' (record { long = holds'.long; keeps = holds'.keeps; freezes = holds'.freezes }) w'' m'' at')
         (s.is_marked || marked)
         (λ e e' d' o number fair' ps' cells' holds' w'' m'' at' has'.
-        let base : ℕ → ℤ = λ j. slice_index_or o.call.privates j (pos 0) in
+        let base : ℕ → ℤ = λ j. base_at cs rs o.call.privates o.iteration j in
         stmt_follows st _ fair' sc1 (inside_loop here1) (loop_in sc1 here1 around1) (λ e''. refl) k1 tidy1 fits_body ok.3
         (λ j r. unfixed_read k1 reads_any writes_any base j (or_right (if_any (expr_reads j) cs.test || if_any (assignment_reads j) cs.step) (stmt_reads j rs) r))
-        (λ j r. (let a = or_right (if_any (assigns j) cs.step) (stmt_assigns j rs) r in (unfixed_write k1 reads_any writes_any base j a, unkept_write k1 reads_any writes_any base j a)))
+        (λ j r. (let a = changed_by_body cs rs j r in (unfixed_write k1 reads_any writes_any base j a, unkept_write k1 reads_any writes_any base j a)))
         (λ j r. (let own = not_below j k1 (stmt_declares j rs) (declares j) r in (own_unfixed k1 reads_any writes_any base j own, own_unkept k1 reads_any writes_any base j own)))
         _ has' ps' cells' holds' w'' m'' at')
         d0 has stands.ps stands.cells stands.holds w' m' stands.at)

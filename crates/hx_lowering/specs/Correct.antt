@@ -1,5 +1,7 @@
 -- What is promised of the code of a program.
-use Rattle.std.specs.Prelude.{◌≡◌, ◌↔◌, ℕ, ℤ, List, take, Some}
+use Rattle.std.specs.Prelude.{◌≡◌, ◌↔◌, ℕ, ℤ, List, take, Some, All}
+use Rattle.std.specs.Int.{w32}
+use Rattle.std.specs.Int.RustNames.{FitsSigned}
 use Rattle.hx_tree.specs.declared.outcome.End.{End}
 use Rattle.hx_tree.specs.Tree.{Program}
 use Rattle.hx_tree.specs.Meaning.{Ending, Means, InputFits}
@@ -20,9 +22,10 @@ abbrev pub run : CodeView → List ℤ → ℕ → Machine
 run code input n = machine_after code n (opening_machine code input)
 
 -- the code does what the program means, and nothing else: the same inputs fit; where the program ends, the code ends so; and
--- where the code has ended, the program ends so
+-- where the code has ended, the program ends so. An input is a list of numbers of 32 bits: a counter is computed by an addition
+-- that wraps, which leaves such numbers alone as they are
 pub record Behaves (p : Program) (view : CodeView) : Type 0 where
   pub fits : (input : List ℤ) → InputFits p input ↔ code.InputFits view input
-  pub ends : (input : List ℤ) → InputFits p input → (r : Ending) → Means p input r → (n : ℕ) × Shows view (run view input n) r
-  pub ends_only : (input : List ℤ) → InputFits p input → (n : ℕ) (finish : End) → (run view input n).end ≡ Some finish
+  pub ends : (input : List ℤ) → All (FitsSigned w32) input → InputFits p input → (r : Ending) → Means p input r → (n : ℕ) × Shows view (run view input n) r
+  pub ends_only : (input : List ℤ) → All (FitsSigned w32) input → InputFits p input → (n : ℕ) (finish : End) → (run view input n).end ≡ Some finish
       → (r : Ending) × Means p input r × Shows view (run view input n) r

@@ -5,6 +5,8 @@ use Rattle.hx_check.specs.Resolved.{Clauses, LoopKind, Stmt, Stmts, Function, Pr
 use Rattle.hx_code.specs.declared.word.Word.{Word}
 use Rattle.hx_code.specs.declared.word.Word.TheVariants.{Const, Drop, Jump, JumpFalse, Call, Ret, Print, Emit, Enter, Turn, Leave}
 use Rattle.hx_code.specs.declared.table.Carried.{Carried}
+use Rattle.hx_code.specs.declared.table.Induct.{Induct}
+use Rattle.hx_check.specs.declared.resolved.Induct as counted
 use Rattle.hx_code.specs.Code.{FuncView, RegionView, CodeView}
 use Rattle.hx_lowering.specs.declared.line.Line.{Line}
 use Rattle.hx_lowering.specs.Size.{expr_size, test_size, turn_size, stmt_size}
@@ -28,6 +30,10 @@ pub record Targets : Type 0 where
 abbrev pub cells_from : List ℕ → ℕ → List Carried
 cells_from [] cell = []
 cells_from (k ∷ ks) cell = record { private = k; cell = cell } ∷ cells_from ks (cell + 1)
+
+-- the counter of a region, for its induction local
+abbrev pub counter_of : counted.Induct → Induct
+counter_of i = record { private = i.private; step = i.step }
 
 -- the version of a region
 abbrev pub inside : ℕ → resolved.Region → Version → Version
@@ -64,7 +70,13 @@ turns_draft c size body v d =
 abbrev pub region_at : resolved.Region → Clauses → ℕ → ℕ → RegionView
 region_at r c size place =
     let start = place + 1 in
-    record { start = start; exit = start + (turn_size c size + 2) + (turn_size c size + 1); carried = cells_from r.carried 0; copied = r.copied }
+    record {
+      start = start;
+      exit = start + (turn_size c size + 2) + (turn_size c size + 1);
+      carried = cells_from r.carried 0;
+      copied = r.copied;
+      induct = option_map counter_of r.induct;
+    }
 
 -- a marked loop that stands in no other: an `enter`, the region's version, and the plain loop
 abbrev pub region_draft : resolved.Region → Clauses → ℕ → (Version → Targets → Draft → Draft) → Version → Draft → Draft
