@@ -9,9 +9,7 @@ use crate::status::{
 };
 use hx_device::{ByteSink, ByteSource, write_all};
 use hx_lower::listing as words_listing;
-use hx_run::{
-    Mode, Refusal, Unwatched, are_in_range, compile, execute, read_source,
-};
+use hx_run::{Mode, Refusal, Unwatched, are_in_range, compile, execute, read_source};
 use hx_trace::listing as trace_listing;
 use hx_tree::outcome::Settings;
 use std::alloc::Global;
@@ -24,12 +22,7 @@ use std::thread::Threads;
 /// The status is that of its end: `Done` or `Fault` where the run is over and its text, and the report that was asked for, were written;
 /// `Refused` for a refusal or a run that isn't over, and `Memory` for want of it, with nothing written; `Device` exactly where the source or
 /// the output has failed in this call.
-pub fn answer_execution<
-    R: Threads + Wait + Sync,
-    S: ByteSource,
-    K: ByteSink,
-    E: Write,
->(
+pub fn answer_execution<R: Threads + Wait + Sync, S: ByteSource, K: ByteSink, E: Write>(
     alloc: Global,
     rt: &R,
     mode: Mode,

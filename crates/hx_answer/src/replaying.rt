@@ -92,9 +92,7 @@ fn reach(
 fn are_workers(digits: &[u8], workers: u32) -> bool
     ensures { IsTrue result ↔ All (IsWorker workers) digits.now }
 {
-    digits
-        .iter()
-        .all(|byte| *byte >= b'0' && *byte <= b'9' && u32::from(*byte - b'0') < workers)
+    digits.iter().all(|byte| *byte >= b'0' && *byte <= b'9' && u32::from(*byte - b'0') < workers)
 }
 
 // The numbers of digits.
@@ -159,12 +157,5 @@ pub fn trace_of(
 {
     let code = compile(alloc, source)?;
     let (region, entry) = reach(alloc, &code, input, asked.nth, asked.steps)?;
-    Ok(trace_from(
-        alloc,
-        &code,
-        region,
-        &entry,
-        asked.settings,
-        asked.digits,
-    )?)
+    Ok(trace_from(alloc, &code, region, &entry, asked.settings, asked.digits)?)
 }

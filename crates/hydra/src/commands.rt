@@ -140,7 +140,9 @@ fn words_command<'a>(alloc: Global) -> Result<Command<'a>, AllocError> {
 
 fn replay_command<'a>(alloc: Global) -> Result<Command<'a>, AllocError> {
     let schedule = Arg::new(alloc, "SCHEDULE")
-        .help("Whose turn it is, again and again: a digit for each step, from 0 for the first worker on")
+        .help(
+            "Whose turn it is, again and again: a digit for each step, from 0 for the first worker on",
+        )
         .required(true)
         .action(ArgAction::Set);
     let entry = number_option(

@@ -20,7 +20,10 @@ pub(crate) struct Shown {
     status: u8,
 }
 
-pub(crate) fn done_by<R: Files + AllocGlobal + Threads + Wait + Sync>(rt: &R, words: &[&str]) -> Shown {
+pub(crate) fn done_by<R: Files + AllocGlobal + Threads + Wait + Sync>(
+    rt: &R,
+    words: &[&str],
+) -> Shown {
     let mut out = Vec::new(rt.alloc());
     let mut err = Vec::new(rt.alloc());
     let status = command(rt, words, &mut out, &mut err);
@@ -65,7 +68,8 @@ const COUNT: &[u8] = b"int c; int main(){ pwhile(c<3){ print(c); c=c+1; } }";
 
 pub(crate) const TWO_TURNS: &[u8] = b"int c; int main(){ pwhile(c<2){ c=c+1; } }";
 
-pub(crate) const PAST_THE_END: &[u8] = b"int a[4]; int main(){ pfor(int i=0;i<8;i++){ a[i]=i+1; print(i);} }";
+pub(crate) const PAST_THE_END: &[u8] =
+    b"int a[4]; int main(){ pfor(int i=0;i<8;i++){ a[i]=i+1; print(i);} }";
 
 pub(crate) const SUM: &[u8] =
     b"int in[3]; int n_in; int main(){ int s=0; pfor(int i=0;i<n_in;i++) s+=in[i]; print(s); return s; }";

@@ -12,7 +12,8 @@ use std::thread::Threads;
 const DIVIDES: &[u8] =
     b"int d; int main(){ pfor(int i=0;i<2;i++){ if(i==0) d=2; else print(10/d); } }";
 
-const REPORT: &[u8] = b"5\nend normal 0\nregions 1\nturns 2\nrepeats 0\nviolations 0\nrestarts 0\nholds 0\nabandons 0\ndiscarded 0\n";
+const REPORT: &[u8] =
+    b"5\nend normal 0\nregions 1\nturns 2\nrepeats 0\nviolations 0\nrestarts 0\nholds 0\nabandons 0\ndiscarded 0\n";
 
 const NEVER: u64 = 1000;
 
@@ -93,7 +94,15 @@ fn tells_of_failed_devices(rt: HostRuntime) {
     let mut write = 0;
     for text in beginnings {
         let failures = Failures { read: NEVER, write };
-        executes(&rt, alloc, run, 1, failures, Err(Refusal::WriteFailed), text);
+        executes(
+            &rt,
+            alloc,
+            run,
+            1,
+            failures,
+            Err(Refusal::WriteFailed),
+            text,
+        );
         write += 1;
     }
 }

@@ -13,11 +13,14 @@ use std::thread::Threads;
 
 const WHOLE: &str = "01010110011110000";
 
-const LEFT: &[u8] = b"state left\nturns 2\nrepeats 1\nviolations 1\nrestarts 1\nholds 0\nabandons 0\ndiscarded 0\n";
+const LEFT: &[u8] =
+    b"state left\nturns 2\nrepeats 1\nviolations 1\nrestarts 1\nholds 0\nabandons 0\ndiscarded 0\n";
 
-const RUNNING: &[u8] = b"state running\nturns 0\nrepeats 0\nviolations 1\nrestarts 1\nholds 0\nabandons 0\ndiscarded 0\n";
+const RUNNING: &[u8] =
+    b"state running\nturns 0\nrepeats 0\nviolations 1\nrestarts 1\nholds 0\nabandons 0\ndiscarded 0\n";
 
-const OPENED: &[u8] = b"state running\nturns 0\nrepeats 0\nviolations 0\nrestarts 0\nholds 0\nabandons 0\ndiscarded 0\n";
+const OPENED: &[u8] =
+    b"state running\nturns 0\nrepeats 0\nviolations 0\nrestarts 0\nholds 0\nabandons 0\ndiscarded 0\n";
 
 const NO_ENTRY: &[u8] = b"hydra: no such region entry\n";
 
@@ -72,7 +75,10 @@ fn settles_stores(rt: HostRuntime) {
     assert_eq!(&rt; first_word(rt.alloc(), all), Some(2));
     assert_eq!(&rt; first_word(rt.alloc(), &all[..5]), Some(0));
     let refused = trace_of(rt.alloc(), TWO_TURNS, &[], &asked(b"012")).err();
-    assert_eq!(&rt; refused.map(|why| matches!(why, NoTrace::Schedule(_))), Some(true));
+    assert_eq!(&rt;
+        refused.map(|why| matches!(why, NoTrace::Schedule(_))),
+        Some(true)
+    );
 }
 
 #[test]
@@ -95,7 +101,16 @@ fn refuses_replays_in_order(rt: HostRuntime) -> Result<(), Fail> {
     let p = "hydra-test-replay-order.hc";
     let i = "hydra-test-replay-order.in";
     let words = [
-        "hydra", "replay", p, "x", "--input", i, "--workers", "0", "--entry", "0",
+        "hydra",
+        "replay",
+        p,
+        "x",
+        "--input",
+        i,
+        "--workers",
+        "0",
+        "--entry",
+        "0",
     ];
     fs::write(&rt, i, b"07")?;
     expect(&rt, &done_by(&rt, &words), b"", b"hydra: refused 65\n", 2);
@@ -103,7 +118,16 @@ fn refuses_replays_in_order(rt: HostRuntime) -> Result<(), Fail> {
     expect(&rt, &done_by(&rt, &words), b"", b"hydra: read failed\n", 4);
     shows(&rt, p, b"", &words, b"", b"hydra: refused 60\n", 2)?;
     let words = [
-        "hydra", "replay", p, "x", "--input", i, "--workers", "8", "--entry", "0",
+        "hydra",
+        "replay",
+        p,
+        "x",
+        "--input",
+        i,
+        "--workers",
+        "8",
+        "--entry",
+        "0",
     ];
     shows(&rt, p, b"", &words, b"", b"hydra: refused 25\n", 2)?;
     shows(&rt, p, SUM, &words, b"", b"hydra: refused 61\n", 2)?;
@@ -120,11 +144,13 @@ fn prints_what_a_region_has_settled(rt: HostRuntime) -> Result<(), Fail> {
     let p = "hydra-test-settles.hc";
     let source = b"int main(){ pwhile(1) return 7; }";
     let words = ["hydra", "replay", p, "000", "--workers", "1"];
-    let wanted = b"state returned 7\nturns 0\nrepeats 0\nviolations 0\nrestarts 0\nholds 0\nabandons 0\ndiscarded 0\n";
+    let wanted =
+        b"state returned 7\nturns 0\nrepeats 0\nviolations 0\nrestarts 0\nholds 0\nabandons 0\ndiscarded 0\n";
     shows(&rt, p, source, &words, wanted, b"", 0)?;
     let source = b"int main(){ pwhile(1){ print(5); emit(65); print(1/0); } }";
     let words = ["hydra", "replay", p, "00000", "--workers", "1"];
-    let wanted = b"5\nAstate fault 1 at 1:51\nturns 0\nrepeats 0\nviolations 0\nrestarts 0\nholds 0\nabandons 0\ndiscarded 0\n";
+    let wanted =
+        b"5\nAstate fault 1 at 1:51\nturns 0\nrepeats 0\nviolations 0\nrestarts 0\nholds 0\nabandons 0\ndiscarded 0\n";
     shows(&rt, p, source, &words, wanted, b"", 0)?;
     Ok(())
 }
@@ -133,12 +159,21 @@ fn prints_what_a_region_has_settled(rt: HostRuntime) -> Result<(), Fail> {
 #[test]
 fn replays_lessons(rt: HostRuntime) -> Result<(), Fail> {
     let p = "hydra-test-lessons.hc";
-    let forwarded = b"state left\nturns 2\nrepeats 0\nviolations 0\nrestarts 0\nholds 0\nabandons 0\ndiscarded 0\n";
+    let forwarded =
+        b"state left\nturns 2\nrepeats 0\nviolations 0\nrestarts 0\nholds 0\nabandons 0\ndiscarded 0\n";
     replays(&rt, p, "00011100110000", forwarded, b"", 0)?;
     let source = b"int a; int done; int main(){ pwhile(done<1){ a=5; done=1; } }";
     let words = [
-        "hydra", "replay", p, "000011111000111011", "--workers", "2", "--buffer", "1",
+        "hydra",
+        "replay",
+        p,
+        "000011111000111011",
+        "--workers",
+        "2",
+        "--buffer",
+        "1",
     ];
-    let held = b"state left\nturns 1\nrepeats 0\nviolations 1\nrestarts 1\nholds 2\nabandons 0\ndiscarded 0\n";
+    let held =
+        b"state left\nturns 1\nrepeats 0\nviolations 1\nrestarts 1\nholds 2\nabandons 0\ndiscarded 0\n";
     shows(&rt, p, source, &words, held, b"", 0)
 }
