@@ -10,11 +10,11 @@ use Rattle.hx_speculation.specs.Iteration.{Store, Ask, Goes, Loads, Stores, Prin
 use Rattle.hx_speculation.specs.Replay.{Course, replayed, world_at}
 use Rattle.hx_speculation.proofs.Stores.{eq_true, eq_same}
 
-abbrev pub nat_of : ℤ → ℕ
+abbrev nat_of : ℤ → ℕ
 nat_of (pos n) = n
 nat_of (negsuc n) = 0
 
-abbrev pub full : Fault
+abbrev full : Fault
 full = record { kind = TextFull; pos = record { line = 1; col = 1 } }
 
 abbrev pub zeros : Store
