@@ -1,11 +1,13 @@
 -- The end that a board tells is the plain region's.
-use Rattle.std.proofs.Common.{◌≡◌, ℕ, ◌+◌, ◌≤◌, length, Some, ap, sym, subst, ◌∙◌}
+use Rattle.std.proofs.Common.{◌≡◌, ℕ, ◌+◌, ◌%◌, ◌^◌, ◌≤◌, ℤ, List, length, Some, refl, ap, sym, subst, ◌∙◌}
 use Rattle.std.specs.Prelude.{take}
 use Rattle.hx_tree.specs.declared.limits.TheConstants.{TEXT_LIMIT}
 use Rattle.hx_code.specs.declared.word.Exit.{Exit}
-use Rattle.hx_code.specs.Code.{CodeView, store_words}
+use Rattle.hx_code.specs.declared.word.Exit.TheVariants.{Left, Returned, Faulted}
+use Rattle.hx_code.specs.Code.{CodeView, region_of, store_words}
 use Rattle.hx_code.specs.Valid.{IsValid}
-use Rattle.hx_code.specs.Region.{RegionState, region_opening, region_after, words_after}
+use Rattle.hx_code.specs.Region.{Opened, RegionState, region_opening, region_after, from_cells, words_after}
+use Rattle.hx_code.proofs.Counters.{counter_modulo}
 use Rattle.hx_word.specs.declared.entry.Entry.{Entry}
 use Rattle.hx_word.specs.declared.entry.RegionEnd.{RegionEnd}
 use Rattle.hx_word.specs.Entry.{IsEndOf, EndLasts, region_counts}
@@ -19,6 +21,12 @@ use Rattle.hx_board.specs.Board.{BoardView, Setup, entry_view, opened_at, region
 use Rattle.hx_board.specs.Known.{IsKept}
 use Rattle.hx_board.specs.Ends.{IsFor, EndsAs, EndsPlainly, plainly}
 use Rattle.hx_board.proofs.Steps.{text_fits}
+
+-- an iteration's number modulo 2 ^ 64 gives the same private words
+words_modulo : (code : CodeView) (x : Exit) (o : Opened) (n : ℕ) (store : List ℤ) → words_after code x o (n % 2 ^ 64) store ≡ words_after code x o n store
+words_modulo code Left o n store = let g = region_of code o.region in counter_modulo g.induct o.words n (from_cells code.globals g.carried store o.words)
+words_modulo code (Returned v) o n store = refl
+words_modulo code (Faulted fault) o n store = refl
 
 -- the same, of what a board was made for
 pub record EndsAlone (s : Setup) (e : RegionEnd) : Type 0 where
@@ -42,6 +50,9 @@ module _ (b : BoardView) (valid : IsValid b.setup.code) (is : IsOpened b.setup.c
       let shows : ShowsAt (opened_at b.setup) z (Some e.exit) (store_of b.store) b.text b.head = found.1 in
       let as_long : length z.store ≡ store_words b.setup.code = region_long b.setup.code valid (opened_at b.setup) is b.setup.entry.store long n in
       let store : z.store ≡ b.store = store_tells z.store b.store (as_long ∙ sym k.long) shows.store in
+      let after_at : Opened → ℕ → List ℤ → List ℤ = words_after b.setup.code e.exit in
+      let words : after_at (opened_at b.setup) b.head b.store ≡ after_at z.opened z.iteration z.store =
+      sym (words_modulo b.setup.code e.exit (opened_at b.setup) b.head b.store) ∙ (λ i. after_at (sym shows.opened i) (sym shows.iteration i) (sym store i)) in
       let turns : e.counts.turns ≡ z.turns = ap (λ c. c.turns) told.counts ∙ k.sound.turns ∙ sym shows.turns in
       let fits : b.setup.entry.printed + length b.text ≤ TEXT_LIMIT = text_fits b valid is k in
       record {
@@ -49,7 +60,7 @@ module _ (b : BoardView) (valid : IsValid b.setup.code) (is : IsOpened b.setup.c
         end = record {
           exit = shows.exit;
           store = told.store ∙ sym store;
-          locals = told.locals ∙ ap (λ s. take (length b.setup.entry.locals) (words_after b.setup.code e.exit (opened_at b.setup) s)) (sym store) ∙ ap (λ o. take (length b.setup.entry.locals) (words_after b.setup.code e.exit o z.store)) (sym shows.opened);
+          locals = told.locals ∙ ap (take (length b.setup.entry.locals)) words;
           text = told.text ∙ sym shows.text;
           counts = ap region_counts turns;
         };

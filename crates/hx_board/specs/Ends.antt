@@ -28,7 +28,7 @@ pub record IsFor (s : Setup) (code : CodeView) (region : ℕ) (e : Entry) : Type
 pub record EndsAs (b : BoardView) (e : RegionEnd) : Type 0 where
   pub exit : b.exit ≡ Some e.exit
   pub store : e.store.items ≡ b.store
-  pub locals : e.locals.items ≡ take (length b.setup.entry.locals) (words_after b.setup.code e.exit (opened_at b.setup) b.store)
+  pub locals : e.locals.items ≡ take (length b.setup.entry.locals) (words_after b.setup.code e.exit (opened_at b.setup) b.head b.store)
   pub text : e.text.items ≡ b.text
   pub counts : e.counts ≡ b.counts
 

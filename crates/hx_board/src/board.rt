@@ -179,8 +179,7 @@ impl<'c> Board<'c> {
         }
         let iteration = self.head + active;
         let opened = &self.opened;
-        self.opening
-            .begin(code, opened.region, opened.below, &opened.words);
+        self.opening.begin(code, opened.region, opened.below, &opened.words, iteration);
         self.slots.begin(worker, &self.opening);
         frame.restart(&self.opening);
         frame.tag(worker, iteration, 1);
@@ -407,7 +406,7 @@ impl<'c> Board<'c> {
         }
         let code = self.job.code;
         code.known();
-        let words = words_behind(code, &self.opened, exit, &self.store);
+        let words = words_behind(code, &self.opened, exit, self.head, &self.store);
         let Board {
             job: _,
             entry: kept,

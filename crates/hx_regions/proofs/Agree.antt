@@ -10,6 +10,7 @@ use Rattle.hx_code.specs.Call.{bytes_of}
 use Rattle.hx_code.specs.Local.{LocalView, LocalWant, LocalAsks, LocalStuck, asks_of}
 use Rattle.hx_code.specs.Valid.{IsValid}
 use Rattle.hx_code.specs.Region.{held, Opened, opening, RegionState, region_opening, region_turns, region_want, region_step, region_after}
+use Rattle.hx_code.proofs.Counters.{opening_modulo}
 use Rattle.hx_word.specs.Running.{IsOpened}
 use Rattle.hx_speculation.specs.Region.{Plain, Going, Over, does, step, Comes}
 use Rattle.hx_frame.specs.Automaton.{asked_by}
@@ -43,7 +44,8 @@ module _ (code : CodeView) (o : Opened) where
 
   turns_both : (q : LocalView) (s : List ℤ) (text : List ℕ) (k : ℕ) → region_turns code (at_state q s text k None) ≡ at_state (opening code o (suc k)) s text (suc k) None
   turns_both q s text k =
-      ap₂ {C = RegionState} (λ j n. record { opened = o; iteration = j; local = opening code o (suc k); store = s; text = text; turns = n; exit = None }) (iteration_next k) (held_next k)
+      let turned : ℕ → LocalView → ℕ → RegionState = λ j l n. record { opened = o; iteration = j; local = l; store = s; text = text; turns = n; exit = None } in
+      ap₂ {C = RegionState} (λ j n. turned j (opening code o j) n) (iteration_next k) (held_next k) ∙ ap (λ l. turned (suc k % 2 ^ 64) l (held (suc k))) (opening_modulo code o (suc k))
 
   want_both : (q : LocalView) (s : List ℤ) (text : List ℕ) (k : ℕ) → length s ≡ store_words code → (w : LocalWant) → IsWell code (Some o.region) w → IsBoth (region_want code w (at_state q s text k None)) (does (region_in code o) (asked_by q w) (store_of s) text k)
   want_both q s text k long LocalStuck h = absurd h

@@ -3,7 +3,7 @@
 use crate::compile;
 use hx_code::code::Code;
 use hx_code::local::Local;
-use hx_code::table::{Carried, Func, Region, Spot, Tables};
+use hx_code::table::{Carried, Func, Induct, Region, Spot, Tables};
 use hx_code::validate::validate;
 use hx_code::word::{Array, Ask, Output, Word};
 use hx_tree::outcome::{Fault, FaultKind};
@@ -79,11 +79,14 @@ enum Flaw {
     CopiedTwice,
     CarriedAndCopied,
     CarriedUnknown,
+    CounterCarried,
+    CounterCopied,
+    CounterUnknown,
     // spots
     SpotMissing,
 }
 
-const FLAWS: [Flaw; 35] = [
+const FLAWS: [Flaw; 38] = [
     Flaw::ParametersAbovePrivates,
     Flaw::TooManyParameters,
     Flaw::TooManyPrivates,
@@ -118,6 +121,9 @@ const FLAWS: [Flaw; 35] = [
     Flaw::CopiedTwice,
     Flaw::CarriedAndCopied,
     Flaw::CarriedUnknown,
+    Flaw::CounterCarried,
+    Flaw::CounterCopied,
+    Flaw::CounterUnknown,
     Flaw::SpotMissing,
 ];
 
@@ -182,6 +188,10 @@ fn pair(private: u32, cell: u32) -> Carried {
     Carried { private, cell }
 }
 
+fn counter(private: u32) -> Induct {
+    Induct { private, step: 1 }
+}
+
 fn region_of(alloc: Global, flaw: Flaw) -> Result<Region, AllocError> {
     let start = match flaw {
         Flaw::RegionBeginsOutside => 11,
@@ -203,11 +213,18 @@ fn region_of(alloc: Global, flaw: Flaw) -> Result<Region, AllocError> {
         Flaw::CarriedAndCopied => [2, 1],
         _ => [2, 3],
     };
+    let induct = match flaw {
+        Flaw::CounterCarried => Some(counter(0)),
+        Flaw::CounterCopied => Some(counter(2)),
+        Flaw::CounterUnknown => Some(counter(4)),
+        _ => None,
+    };
     Ok(Region {
         start,
         exit,
         carried: Vec::from_slice(alloc, &carried)?,
         copied: Vec::from_slice(alloc, &copied)?,
+        induct,
     })
 }
 
@@ -556,7 +573,7 @@ fn iteration_asks(alloc: Global, code: &Code) -> Result<(Ask, [usize; 2], [i32; 
         return Err(Fail::from("no region"));
     }
     let mut iteration = Local::new(alloc, code)?;
-    iteration.begin(code, 0, 0, &words_at_two_and_one());
+    iteration.begin(code, 0, 0, &words_at_two_and_one(), 0);
     let calls = [iteration.calls(), iteration.below()];
     let words = [iteration.privates()[1], iteration.privates()[2]];
     Ok((iteration.stretch(code, 1000).ask, calls, words))
@@ -568,7 +585,7 @@ fn iteration_goes_on(alloc: Global, code: &Code) -> Result<Ask, Fail> {
         return Err(Fail::from("no region"));
     }
     let mut iteration = Local::new(alloc, code)?;
-    iteration.begin(code, 0, 0, &[0; 64]);
+    iteration.begin(code, 0, 0, &[0; 64], 0);
     let loads = iteration.stretch(code, 1000);
     match loads.ask {
         Ask::Loads(_) => {

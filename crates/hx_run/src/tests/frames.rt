@@ -27,7 +27,7 @@ fn start_of(alloc: Global, code: &Code) -> Result<Local, Fail>
         return Err(Fail::from("one region is wanted"));
     }
     let mut start = Local::new(alloc, code)?;
-    start.begin(code, 0, 0, &[0; 64]);
+    start.begin(code, 0, 0, &[0; 64], 0);
     Ok(start)
 }
 

@@ -1,6 +1,6 @@
 use Rattle.std.proofs.Common.{arith, ◌≡◌, ◌+◌, length, true, false, ap, sym, subst, ◌∙◌}
 use Rattle.hx_code.specs.Fits.{FitsLocal}
-use Rattle.hx_code.specs.Region.{Opened}
+use Rattle.hx_code.specs.Region.{Opened, opening}
 use Rattle.hx_frame.specs.Frame.{FrameView}
 use Rattle.hx_speculation.specs.Frame.{Frame, begins}
 use Rattle.hx_speculation.specs.Board.{Start, Go, Ended}
@@ -50,7 +50,7 @@ next c =
     let over : is_over b ≡ false = ap is_over c.self.view_is ∙ sym c.is_over.ensures ∙ c.if-is_over.false in
     let o = opened_at b.setup in
     let same = c.self.invariant.opened in
-    let at = c.begin.ensures.begun o (b.head + length b.active) (sym (ap (λ (p : Opened). p.region) same)) (sym (ap (λ (p : Opened). p.below) same)) (sym (ap (λ (p : Opened). p.words) same)) in
+    let at = c.begin.ensures.begun o (sym (ap (λ (p : Opened). p.region) same)) (sym (ap (λ (p : Opened). p.below) same)) (sym (ap (λ (p : Opened). p.words) same)) ∙ ap (λ n. opening b.setup.code o (b.head + n)) c.len-active.ensures in
     start_next b c.args.worker c.place_of-place.result c.begin.new.self over c.place_of-place.ensures.number (omega (arith, c.len.ensures, c.if-place-len.false)) (omega (arith, c.len-active.ensures, c.if-self-active.false, c.self.invariant.kept.numbers)) at
 
 pub invariant_of-self-2 : goal.invariant_of-self-2
