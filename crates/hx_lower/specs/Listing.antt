@@ -1,6 +1,6 @@
 -- The listing of code: a line for the globals, one for each function and each region, and one for each word. Each definition
 -- puts a part behind a text.
-use Rattle.std.specs.Prelude.{ℕ, ◌+◌, ℤ, List, [], ◌∷◌, ◌++◌, codes, decimal}
+use Rattle.std.specs.Prelude.{ℕ, ◌+◌, ℤ, List, [], ◌∷◌, ◌++◌, codes, decimal, Option, Some, None}
 use Rattle.std.specs.Fmt.{signed_decimal}
 use Rattle.hx_tree.specs.declared.token.Pos.{Pos}
 use Rattle.hx_tree.specs.declared.tree.UnaryOp.{UnaryOp}
@@ -11,6 +11,7 @@ use Rattle.hx_code.specs.declared.word.Array.{Array}
 use Rattle.hx_code.specs.declared.word.Word.{Word}
 use Rattle.hx_code.specs.declared.word.Word.TheVariants as word
 use Rattle.hx_code.specs.declared.table.Carried.{Carried}
+use Rattle.hx_code.specs.declared.table.Induct.{Induct}
 use Rattle.hx_code.specs.Code.{FuncView, RegionView, CodeView}
 
 -- ---- parts of a line
@@ -135,10 +136,15 @@ abbrev pub copied_behind : List ℕ → List ℕ → List ℕ
 copied_behind [] text = text
 copied_behind (k ∷ ks) text = copied_behind ks (number_behind k text)
 
+-- the counter's private word and its step, where there is one
+abbrev pub induct_behind : Option Induct → List ℕ → List ℕ
+induct_behind None text = text
+induct_behind (Some i) text = signed_behind i.step (number_behind i.private (text ++ codes " induct"))
+
 abbrev pub region_behind : RegionView → List ℕ → List ℕ
 region_behind r text =
-    line_end (copied_behind r.copied (carried_behind r.carried (number_behind r.exit (number_behind r.start (text ++ codes "region"))
-    ++ codes " carried") ++ codes " copied"))
+    line_end (induct_behind r.induct (copied_behind r.copied (carried_behind r.carried (number_behind r.exit (number_behind r.start (text ++ codes "region"))
+    ++ codes " carried") ++ codes " copied")))
 
 abbrev pub regions_behind : List RegionView → List ℕ → List ℕ
 regions_behind [] text = text

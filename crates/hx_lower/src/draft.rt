@@ -1,10 +1,11 @@
 // The words of a program so far, and which version of a function's words is written.
 
-ghost use Rattle.std.specs.Prelude.{◌≡◌, ◌+◌, ◌<◌, ◌≤◌, ◌^◌, IfOk, OkIff, OnOk, Some, [], ◌∷◌, ◌++◌, length, map};
-ghost use Rattle.hx_lowering.specs.Draft.{with_lines, plain_version, cells_from};
+ghost use Rattle.std.specs.Prelude.{◌≡◌, ◌+◌, ◌<◌, ◌≤◌, ◌^◌, IfOk, OkIff, OnOk, Some, [], ◌∷◌, ◌++◌, length, map, option_map};
+ghost use Rattle.hx_lowering.specs.Draft.{with_lines, plain_version, cells_from, counter_of};
 ghost use Rattle.hx_lowering.specs.Lines as lines;
 
-use hx_check::resolved::Words;
+use hx_check::resolved::{Induct, Words};
+use hx_code::table;
 use hx_code::table::{Carried, Func, Region, Spot};
 use hx_code::word::{Array, Word};
 use hx_lowering::line::Line;
@@ -251,5 +252,18 @@ pub(crate) fn array_of(words: Words) -> Array
     Array {
         base: words.base,
         length: words.length,
+    }
+}
+
+/// The counter of a region, for its induction local.
+pub(crate) fn counter_of(induct: Option<Induct>) -> Option<table::Induct>
+    ensures { result ≡ option_map counter_of induct }
+{
+    match induct {
+        Some(induct) => Some(table::Induct {
+            private: induct.private,
+            step: induct.step,
+        }),
+        None => None,
     }
 }

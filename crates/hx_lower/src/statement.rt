@@ -7,7 +7,7 @@ ghost use Rattle.hx_lowering.specs.Draft.{stmt_draft, stmts_draft, turn_draft, p
 ghost use Rattle.hx_lowering.specs.Size as size;
 
 use crate::assignment::{put_simple, put_simples, put_step, put_test};
-use crate::draft::{Drafted, Version, cells_of};
+use crate::draft::{Drafted, Version, cells_of, counter_of};
 use crate::expression::{put_expr, put_exprs};
 use crate::size::{stmt_size, turn_size};
 use crate::target::{Targets, behind, behind_if, counted};
@@ -135,6 +135,7 @@ fn put_region(
         exit,
         carried: cells,
         copied,
+        induct: counter_of(region.induct),
     })
 }
 

@@ -1,10 +1,10 @@
 // Code as text.
 
 ghost use Rattle.std.specs.Prelude.{◌≡◌, ◌++◌, OnOk, IfOk, decimal};
-ghost use Rattle.hx_lower.specs.Listing.{number_behind, signed_behind, line_end, place_behind, unary_name, operator_name, word_name as name_of_word, array_behind, operator_behind, operands_behind, word_behind, words_behind, function_behind, functions_behind, carried_behind, copied_behind, region_behind, regions_behind, listing_of};
+ghost use Rattle.hx_lower.specs.Listing.{number_behind, signed_behind, line_end, place_behind, unary_name, operator_name, word_name as name_of_word, array_behind, operator_behind, operands_behind, word_behind, words_behind, function_behind, functions_behind, carried_behind, copied_behind, induct_behind, region_behind, regions_behind, listing_of};
 
 use hx_code::code::Code;
-use hx_code::table::{Carried, Func, Region};
+use hx_code::table::{Carried, Func, Induct, Region};
 use hx_code::word::{Array, Word};
 use hx_tree::token::Pos;
 use hx_tree::tree::{Operator, UnaryOp};
@@ -97,6 +97,7 @@ fn put_region(text: &mut Vec<u8>, region: &Region) -> Result<(), AllocError>
     put_carried(text, &region.carried)?;
     text.extend_from_slice(b" copied")?;
     put_copied(text, &region.copied)?;
+    put_induct(text, region.induct)?;
     end_line(text)
 }
 
@@ -118,6 +119,19 @@ fn put_copied(text: &mut Vec<u8>, copied: &[u32]) -> Result<(), AllocError>
         put_number(text, *k)?;
     }
     Ok(())
+}
+
+fn put_induct(text: &mut Vec<u8>, induct: Option<Induct>) -> Result<(), AllocError>
+    ensures { OnOk result (text.new.items ≡ induct_behind induct text.old.items) }
+{
+    match induct {
+        None => Ok(()),
+        Some(induct) => {
+            text.extend_from_slice(b" induct")?;
+            put_number(text, induct.private)?;
+            put_signed(text, induct.step)
+        }
+    }
 }
 
 fn put_words(text: &mut Vec<u8>, words: &[Word]) -> Result<(), AllocError>
