@@ -1,5 +1,6 @@
 // Whole commands, on files that each test writes for itself.
 
+mod helping;
 mod replaying;
 mod reporting;
 
