@@ -1,5 +1,5 @@
 -- From a run of lowered code to the headline.
-use Rattle.std.proofs.Common.{◌≡◌, ℕ, List, ℤ, Some, refl, sym, ap, subst, ◌∙◌}
+use Rattle.std.proofs.Common.{◌≡◌, ℕ, List, ℤ, Some, w32, FitsSigned, refl, sym, ap, subst, ◌∙◌}
 use Rattle.hx_tree.specs.declared.outcome.End.{End}
 use Rattle.hx_tree.specs.declared.outcome.Finish.{Finish}
 use Rattle.hx_tree.specs.Tree.{Program}
@@ -8,7 +8,7 @@ use Rattle.hx_tree.specs.Meaning as meaning
 use Rattle.hx_code.specs.Code.{CodeView}
 use Rattle.hx_code.specs.Machine as machine
 use Rattle.hx_lowering.specs.Correct.{Behaves, Shows}
-use Rattle.std.specs.Prelude.{Result, Ok, Err, IfOk, OnOk}
+use Rattle.std.specs.Prelude.{All, Result, Ok, Err, IfOk, OnOk}
 use Rattle.hx_tree.specs.Accepted.{IsAccepted}
 use Rattle.hx_run.specs.declared.running.PlainRan.{PlainRan}
 use Rattle.hx_run.specs.declared.running.PlainRan.TheVariants.{Ended, More}
@@ -34,11 +34,11 @@ compiled source p code alone accepted behaves =
 plainly_so : (code : CodeView) (m : machine.Machine) (f : Finish) → EndsAs code m f → EndsSpeculatively code m f
 plainly_so code m f (ended, counts) = record { ends = ended; regions = ap (λ c. c.regions) counts; turns = ap (λ c. c.turns) counts }
 
-pub is_finish : (source : List ℕ) (input : List ℤ) (code : CodeView) (f : Finish) → IsCodeOf source code → machine.InputFits code input → EndsSo code input f → IsFinishOf source input f
-is_finish source input code f of fits_code (n, so) =
+pub is_finish : (source : List ℕ) (input : List ℤ) (code : CodeView) (f : Finish) → All (FitsSigned w32) input → IsCodeOf source code → machine.InputFits code input → EndsSo code input f → IsFinishOf source input f
+is_finish source input code f numbers of fits_code (n, so) =
     let ended = so.ends in
     let fits : meaning.InputFits of.program input = (of.behaves.fits input).1 fits_code in
-    let found = of.behaves.ends_only input fits n f.outcome.end ended.end in
+    let found = of.behaves.ends_only input numbers fits n f.outcome.end ended.end in
     let shows : Shows code (after code input n) found.0 = found.2 in
     let end_is : found.0.finish ≡ f.outcome.end = same_end _ _ (sym shows.finish ∙ ended.end) in
     let r_is : found.0 ≡ shown_by f.outcome found.0.turns =
@@ -52,10 +52,10 @@ is_finish source input code f of fits_code (n, so) =
       counted = so.turns ∙ shows.turns;
     }
 
-pub plain_ran : (source : List ℕ) (input : List ℤ) (code : CodeView) (steps : ℕ) (ran : PlainRan) → IsCodeOf source code → machine.InputFits code input
+pub plain_ran : (source : List ℕ) (input : List ℤ) (code : CodeView) (steps : ℕ) (ran : PlainRan) → All (FitsSigned w32) input → IsCodeOf source code → machine.InputFits code input
     → PlainlySo code input steps ran → IsPlainRanOf source input steps ran
-plain_ran source input code steps (Ended f) of fits h = is_finish source input code f of fits (steps, plainly_so code (after code input steps) f h)
-plain_ran source input code steps More of fits h = (code, of, h)
+plain_ran source input code steps (Ended f) numbers of fits h = is_finish source input code f numbers of fits (steps, plainly_so code (after code input steps) f h)
+plain_ran source input code steps More numbers of fits h = (code, of, h)
 
 pub is_too_long : (source : List ℕ) (input : List ℤ) (code : CodeView) → IsCodeOf source code → (machine.InputFits code input → ⊥) → IsTooLong source input
 is_too_long source input code of unfit = record { program = of.program; is_source = of.is_source; unfit = λ fits. unfit ((of.behaves.fits input).0 fits) }
@@ -86,12 +86,12 @@ source_refuses_run source input refusal.InputText h = h
 
 -- the same of what is answered
 
-pub finish_if_ok : (source : List ℕ) (input : List ℤ) (code : CodeView) (r : Result Finish Refusal) → IsCodeOf source code → IfOk r (EndsSo code input)
+pub finish_if_ok : (source : List ℕ) (input : List ℤ) (code : CodeView) (r : Result Finish Refusal) → All (FitsSigned w32) input → IsCodeOf source code → IfOk r (EndsSo code input)
     → OnOk r (machine.InputFits code input) → IfOk r (IsFinishOf source input)
-finish_if_ok source input code (Ok f) of ends fits = is_finish source input code f of fits ends
-finish_if_ok source input code (Err e) of ends fits = tt
+finish_if_ok source input code (Ok f) numbers of ends fits = is_finish source input code f numbers of fits ends
+finish_if_ok source input code (Err e) numbers of ends fits = tt
 
-pub ran_if_ok : (source : List ℕ) (input : List ℤ) (code : CodeView) (steps : ℕ) (r : Result PlainRan Refusal) → IsCodeOf source code → IfOk r (PlainlySo code input steps)
+pub ran_if_ok : (source : List ℕ) (input : List ℤ) (code : CodeView) (steps : ℕ) (r : Result PlainRan Refusal) → All (FitsSigned w32) input → IsCodeOf source code → IfOk r (PlainlySo code input steps)
     → OnOk r (machine.InputFits code input) → IfOk r (IsPlainRanOf source input steps)
-ran_if_ok source input code steps (Ok ran) of ends fits = plain_ran source input code steps ran of fits ends
-ran_if_ok source input code steps (Err e) of ends fits = tt
+ran_if_ok source input code steps (Ok ran) numbers of ends fits = plain_ran source input code steps ran numbers of fits ends
+ran_if_ok source input code steps (Err e) numbers of ends fits = tt

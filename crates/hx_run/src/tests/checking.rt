@@ -306,20 +306,30 @@ fn functions(rt: HostRuntime) -> Result<(), Fail> {
     Ok(())
 }
 
+fn small(n: u32) -> i32 {
+    i32::try_from(n).unwrap_or(-1)
+}
+
 /// What the loops take along that stand in the body of this function: for each, how many words it
-/// carries, how many it copies, and all of them in this order.
-fn taken(checked: &Checked, alloc: Global, function: usize) -> Result<Vec<u32>, Fail> {
+/// carries, how many it copies, how many it computes, and all of them in this order, a computed one
+/// with its step.
+fn taken(checked: &Checked, alloc: Global, function: usize) -> Result<Vec<i32>, Fail> {
     let mut all = Vec::new(alloc);
     if let Some(f) = checked.program().functions.get(function) {
         for s in &f.body {
             if let Stmt::Loop(LoopKind::Region(region), _, _) = s {
-                all.push(u32::try_from(region.carried.len()).unwrap_or(99))?;
-                all.push(u32::try_from(region.copied.len()).unwrap_or(99))?;
+                all.push(i32::try_from(region.carried.len()).unwrap_or(99))?;
+                all.push(i32::try_from(region.copied.len()).unwrap_or(99))?;
+                all.push(if region.induct.is_some() { 1 } else { 0 })?;
                 for k in &region.carried {
-                    all.push(*k)?;
+                    all.push(small(*k))?;
                 }
                 for k in &region.copied {
-                    all.push(*k)?;
+                    all.push(small(*k))?;
+                }
+                if let Some(induct) = region.induct {
+                    all.push(small(induct.private))?;
+                    all.push(induct.step)?;
                 }
             }
         }
@@ -333,7 +343,7 @@ fn checked(alloc: Global, source: &[u8]) -> Result<Checked, Refusal> {
     Ok(check(alloc, program)?)
 }
 
-fn expect_taken(rt: &impl Abort, alloc: Global, source: &[u8], want: &[u32]) -> Result<(), Fail> {
+fn expect_taken(rt: &impl Abort, alloc: Global, source: &[u8], want: &[i32]) -> Result<(), Fail> {
     match checked(alloc, source) {
         Ok(checked) => {
             let all = taken(&checked, alloc, 0)?;
@@ -347,28 +357,75 @@ fn expect_taken(rt: &impl Abort, alloc: Global, source: &[u8], want: &[u32]) -> 
 
 #[test]
 fn regions(rt: HostRuntime) -> Result<(), Fail> {
-    // s and i are carried, k is copied
+    // s is carried, k is copied, i is computed
     let source = b"int main(){ int s=0; int k=3; pfor(int i=0;i<k;i++) s+=i; print(s); }";
-    expect_taken(&rt, rt.alloc(), source, &[2, 1, 0, 2, 1])?;
+    expect_taken(&rt, rt.alloc(), source, &[1, 1, 1, 0, 1, 2, 1])?;
     // parameters are outer locals
     let source = b"int f(int a,int b){ pwhile(a<b) a++; return a; } int main(){}";
-    expect_taken(&rt, rt.alloc(), source, &[1, 1, 0, 1])?;
+    expect_taken(&rt, rt.alloc(), source, &[1, 1, 0, 0, 1])?;
     // what the turns declare isn't taken along
     let source = b"int main(){ int s; pfor(int i=0;i<3;i++){ int t=i; s+=t; } }";
-    expect_taken(&rt, rt.alloc(), source, &[2, 0, 0, 1])?;
+    expect_taken(&rt, rt.alloc(), source, &[1, 0, 1, 0, 1, 1])?;
     // a marked loop inside another is plain
     let source = b"int main(){ int n=2; pfor(int i=0;i<n;i++) pfor(int j=0;j<n;j++) emit(j); }";
-    expect_taken(&rt, rt.alloc(), source, &[1, 1, 1, 0])?;
+    expect_taken(&rt, rt.alloc(), source, &[0, 1, 1, 0, 1, 1])?;
     // an inner local of the same name is another word
     let source = b"int main(){ int x; pwhile(x<1){ int x=5; x=6; } }";
-    expect_taken(&rt, rt.alloc(), source, &[0, 1, 0])?;
+    expect_taken(&rt, rt.alloc(), source, &[0, 1, 0, 0])?;
     // an index and an argument are read
     let source =
         b"int main(){ int i=1; int y; pwhile(a[0]<f(y)) a[i]=1; } int a[4]; int f(int x){}";
-    expect_taken(&rt, rt.alloc(), source, &[0, 2, 0, 1])?;
+    expect_taken(&rt, rt.alloc(), source, &[0, 2, 0, 0, 1])?;
     // globals and unmarked loops take nothing along; two regions, each with its own lists
     let source = b"int main(){ int s; while(g<2) g++; pwhile(s<g) s++; pwhile(g<s) g++; } int g;";
-    expect_taken(&rt, rt.alloc(), source, &[1, 0, 0, 0, 1, 0])
+    expect_taken(&rt, rt.alloc(), source, &[1, 0, 0, 0, 0, 1, 0, 0])
+}
+
+// What counts as a counter: its step is `i++`, `i--`, `i += N` or `i -= N`, and it begins in the first clause.
+#[test]
+fn computed(rt: HostRuntime) -> Result<(), Fail> {
+    let alloc = rt.alloc();
+    // declared outside, and a parameter
+    let source = b"int main(){ int i; pfor(i=10;i>4;i-=4) emit(65); print(i); }";
+    expect_taken(&rt, alloc, source, &[0, 0, 1, 0, -4])?;
+    let source = b"int f(int n){ pfor(n=0;n<3;n+=2) emit(n); return n; } int main(){}";
+    expect_taken(&rt, alloc, source, &[0, 0, 1, 0, 2])?;
+    // without a first value it begins with 0; of two names the one of the step is meant
+    let source = b"int main(){ pfor(int i;i<3;i++) emit(i); }";
+    expect_taken(&rt, alloc, source, &[0, 0, 1, 0, 1])?;
+    let source = b"int main(){ pfor(int i=0,j=5;j>0;j--) emit(i); }";
+    expect_taken(&rt, alloc, source, &[0, 1, 1, 0, 1, -1])?;
+    // steps of 0, and the greatest
+    let source = b"int main(){ pfor(int i=0;i<1;i+=0) break; pfor(int i=0;i<1;i-=0) break; }";
+    expect_taken(&rt, alloc, source, &[0, 0, 1, 0, 0, 0, 0, 1, 1, 0])?;
+    let source = b"int main(){ pfor(int i=0;i<1;i-=2147483647) break; }";
+    expect_taken(&rt, alloc, source, &[0, 0, 1, 0, -2147483647])?;
+    // an inner block has a local of the same name
+    let source = b"int main(){ pfor(int i=0;i<3;i++){ int i=7; i=5; } }";
+    expect_taken(&rt, alloc, source, &[0, 0, 1, 0, 1])
+}
+
+// And what doesn't, though it looks like one.
+#[test]
+fn not_computed(rt: HostRuntime) -> Result<(), Fail> {
+    let alloc = rt.alloc();
+    for source in [
+        b"int main(){ pfor(int i=0;i<3;i=i+1) emit(i); }".as_slice(),
+        b"int main(){ pfor(int i=0;i<3;i+=(1)) emit(i); }".as_slice(),
+        b"int main(){ pfor(int i=0;i<3;i+=-1) emit(i); }".as_slice(),
+        b"int main(){ pfor(int i=1;i<3;i*=2) emit(i); }".as_slice(),
+        b"int main(){ int i; pfor(;i<3;i++) emit(i); }".as_slice(),
+        b"int main(){ int i; pfor(i+=1;i<3;i++) emit(i); }".as_slice(),
+        b"int main(){ pfor(int i=0;i<3;i++) i=i+1; }".as_slice(),
+        b"int main(){ pfor(int i=0;i<3;i++){ emit(i); { i++; } } }".as_slice(),
+        b"int main(){ pfor(int i=0;i<3;i++) for(;i<2;i++) emit(i); }".as_slice(),
+        b"int main(){ int i; pwhile(i<3) i++; }".as_slice(),
+    ] {
+        expect_taken(&rt, alloc, source, &[1, 0, 0, 0])?;
+    }
+    // a global is no local
+    let source = b"int main(){ pfor(g=0;g<3;g++) emit(g); } int g;";
+    expect_taken(&rt, alloc, source, &[0, 0, 0])
 }
 
 fn is_resolved(rt: &impl Abort, program: &Program) {

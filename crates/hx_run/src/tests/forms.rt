@@ -2,6 +2,7 @@
 // the script forms/write_tests.sh.
 
 mod called;
+mod counters;
 mod examples;
 mod in_pfor;
 mod in_pwhile;
