@@ -1,15 +1,18 @@
-// Marked loops in marked loops, each with a counter, and a counter that an inner loop reads.
-int grid[12];
+// Marked loops in marked ones, all with counters: the outer one is a region, and runs the inner ones plainly.
+// Whole turns: 6.
+int m[12];
+
+void row(int i) {
+  pfor (int j = 0; j < 4; j++) m[i * 4 + j] = i * 10 + j;
+}
+
 int main() {
-  int i;
-  int j = 7;
-  pfor (i = 0; i < 3; i++) {
-    pfor (int j = i; j < 4; j++) grid[i * 4 + j] = i * 10 + j;
-    pfor (int k = 0; k < i; k++) grid[i * 4] += k + j;
+  pfor (int i = 2; i >= 0; i--) row(i);
+  int k;
+  pfor (int i = 0; i < 3; i++) {
+    pfor (k = 3; k >= 0; k--) print(m[i * 4 + k]);
+    print(k);
   }
-  print(i);
-  print(j);
-  for (i = 0; i < 12; i++) print(grid[i]);
+  print(k);
   return 0;
 }
-// Whole turns: 3.

@@ -1,13 +1,14 @@
-// A counter that the body reads behind an inner loop, which counts another local of the same name.
-int a[6];
+// The body reads the counter behind inner loops, which have counters of their own.
+// Whole turns: 4.
 int main() {
-  pfor (int i = 0; i < 6; i++) {
-    int s = 0;
-    for (int j = 0; j < 4; j++) s += j;
-    for (int i = 10; i < 12; i++) s += i;
-    a[i] = s + i;
+  int total = 0;
+  pfor (int i = 1; i <= 4; i++) {
+    int t = 0;
+    for (int j = 0; j < i; j++) t += j;
+    pfor (int j = 0; j < i; j++) t += i;
+    total += t * i;
+    print(i * 100 + t);
   }
-  for (int k = 0; k < 6; k++) print(a[k]);
+  print(total);
   return 0;
 }
-// Whole turns: 6.

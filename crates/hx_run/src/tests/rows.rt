@@ -399,6 +399,57 @@ fn refuses(rt: &impl Abort, alloc: Global, source: &[u8], input: &[i32], number:
     }
 }
 
+// Loops whose counters are computed: past the greatest number, down and behind the loop, beside a carried sum, and to a fault.
+#[test]
+fn counters(rt: HostRuntime) {
+    let rows = [
+        normal(
+            b"int main(){ pfor(int i=2147483646;i>0;i++) print(i); }",
+            b"2147483646\n2147483647\n",
+            &[],
+            1,
+            2,
+        ),
+        normal(
+            b"int main(){ int i; pfor(i=10;i>4;i-=4) emit(65); print(i); }",
+            b"AA2\n",
+            &[],
+            1,
+            2,
+        ),
+        normal(
+            b"int main(){ int s=0; int k=3; pfor(int i=0;i<k;i++) s+=i; print(s); }",
+            b"3\n",
+            &[],
+            1,
+            3,
+        ),
+        Row {
+            end: fault(FaultKind::ZeroDivisor, 1, 39),
+            ..normal(
+                b"int main(){ pfor(int i=2;;i--) print(6/i); }",
+                b"3\n6\n",
+                &[],
+                1,
+                2,
+            )
+        },
+        Row {
+            input: &[-2147483648],
+            ..normal(
+                b"int in[1]; int main(){ int i; pfor(i=in[0];i;i-=1){ if(i>0) break; } print(i); }",
+                b"2147483647\n",
+                &[-2147483648],
+                1,
+                1,
+            )
+        },
+    ];
+    for row in rows {
+        holds(&rt, rt.alloc(), row);
+    }
+}
+
 #[test]
 fn input_has_to_fit(rt: HostRuntime) {
     let source = b"int in[2]; int main(){}".as_slice();

@@ -8,7 +8,41 @@ fn programs_hold(rt: HostRuntime) {
     all_hold(&rt, rt.alloc(), &PROGRAMS);
 }
 
-const PROGRAMS: [Program<'static>; 8] = [
+const PROGRAMS: [Program<'static>; 15] = [
+    Program {
+        name: "forms/counters/broken",
+        source: br"// Loops that `break` leaves, from a block and from an inner `if`, and their counters behind them.
+// Whole turns: 7.
+int a[10] = {3, 1, 4, 1, 5, 9, 2, 6, 5, 3};
+
+int main() {
+  int i;
+  pfor (i = 0; i < 10; i++) {
+    if (a[i] == 9) break;
+    a[i] = i;
+  }
+  print(i);
+  pfor (i = 9; i >= 0; i -= 2) {
+    {
+      int t = a[i];
+      if (t > 6) { break; }
+      if (t == 5) { print(t); continue; }
+      print(t * 10);
+    }
+  }
+  print(i);
+  pfor (i = 2; ; i += 3) {
+    break;
+  }
+  print(i);
+  return 0;
+}
+",
+        input: b"",
+        text: b"5\n30\n60\n5\n2\n",
+        returned: 0,
+        turns: Some(7),
+    },
     Program {
         name: "forms/counters/carried_beside",
         source: br"// A counter beside carried and copied locals, and a sum that each turn needs of the one before.
@@ -38,148 +72,221 @@ int main() {
         turns: Some(10),
     },
     Program {
-        name: "forms/counters/nested",
-        source: br"// Marked loops in marked loops, each with a counter, and a counter that an inner loop reads.
-int grid[12];
+        name: "forms/counters/carried_sum",
+        source: br"// A sum is carried, a limit copied, and the counter computed; then a counter that begins with what a call gives.
+// Whole turns: 16.
+int first(int n) { return n * n - 4; }
+
 int main() {
-  int i;
-  int j = 7;
-  pfor (i = 0; i < 3; i++) {
-    pfor (int j = i; j < 4; j++) grid[i * 4 + j] = i * 10 + j;
-    pfor (int k = 0; k < i; k++) grid[i * 4] += k + j;
-  }
-  print(i);
-  print(j);
-  for (i = 0; i < 12; i++) print(grid[i]);
-  return 0;
-}
-// Whole turns: 3.
-",
-        input: b"",
-        text: b"3\n7\n0\n1\n2\n3\n7\n11\n12\n13\n15\n0\n22\n23\n",
-        returned: 0,
-        turns: Some(3),
-    },
-    Program {
-        name: "forms/counters/no_counters",
-        source: br"// Loops that look as if they had a counter: the step is written out, or the turns assign the local too.
-int g;
-int main() {
-  int i;
-  pfor (i = 0; i < 5; i = i + 1) print(i);
-  print(i);
-  pfor (i = 0; i < 9; i++) {
-    print(i);
-    if (i == 3) i = 6;
-  }
-  print(i);
-  pfor (i = 0; i < 9; i++) {
-    {
-      i += 2;
-    }
-    print(i);
-  }
-  print(i);
-  pfor (i = 0; i < 9; i++) {
-    int n = 0;
-    for (; n < 2; i++) n++;
-    print(i);
-  }
-  print(i);
-  pfor (; i < 20; i += 3) print(i);
-  print(i);
-  pfor (i += 1; i < 30; i += 4) print(i);
-  print(i);
-  pfor (g = 0; g < 4; g++) print(g);
-  print(g);
-  int by = 2;
-  pfor (i = 0; i < 7; i += by) print(i);
-  print(i);
-  return 0;
-}
-",
-        input: b"",
-        text: b"0\n1\n2\n3\n4\n5\n0\n1\n2\n3\n7\n8\n9\n2\n5\n8\n9\n2\n5\n8\n9\n9\n12\n15\n18\n21\n22\n26\n30\n0\n1\n2\n3\n4\n0\n2\n4\n6\n8\n",
-        returned: 0,
-        turns: None,
-    },
-    Program {
-        name: "forms/counters/parameters",
-        source: br"// Counters that are parameters, and parameters that bound them.
-int stars(int n, int to) {
-  pfor (n = n * 2; n < to; n += 2) emit(42);
-  return n;
-}
-int sum(int from, int to) {
   int s = 0;
-  pfor (from = from; from <= to; from++) s += from;
-  print(from);
-  return s;
-}
-int main() {
-  print(stars(1, 9));
-  print(stars(5, 3));
-  print(sum(1, 10));
-  print(sum(4, 3));
+  int k = 3;
+  pfor (int i = 0; i < k; i++) s += i;
+  print(s);
+  int i;
+  pfor (i = first(k); i < 15; i += 2) s += i;
+  print(s);
+  pfor (i = s - 42; i > -2; i--) { s = s - i; }
+  print(s);
+  print(i);
   return 0;
 }
-// Whole turns: 14.
 ",
         input: b"",
-        text: b"****10\n10\n11\n55\n4\n0\n",
+        text: b"3\n48\n28\n-2\n",
         returned: 0,
-        turns: Some(14),
+        turns: Some(16),
     },
     Program {
-        name: "forms/counters/read_behind_inner",
-        source: br"// A counter that the body reads behind an inner loop, which counts another local of the same name.
-int a[6];
+        name: "forms/counters/down_behind",
+        source: br"// A counter that is declared outside goes down by 4, and is used behind its loop.
+// Whole turns: 2.
 int main() {
-  pfor (int i = 0; i < 6; i++) {
-    int s = 0;
-    for (int j = 0; j < 4; j++) s += j;
-    for (int i = 10; i < 12; i++) s += i;
-    a[i] = s + i;
-  }
-  for (int k = 0; k < 6; k++) print(a[k]);
+  int i;
+  pfor (i = 10; i > 4; i -= 4) emit(65);
+  print(i);
   return 0;
 }
-// Whole turns: 6.
 ",
         input: b"",
-        text: b"27\n28\n29\n30\n31\n32\n",
+        text: b"AA2\n",
+        returned: 0,
+        turns: Some(2),
+    },
+    Program {
+        name: "forms/counters/lookalikes",
+        source: br"// Loops that look like it: their steps, or what their bodies assign, make their locals carried ones.
+// Whole turns: 26.
+int main() {
+  pfor (int i = 0; i < 3; i = i + 1) print(i);
+  pfor (int i = 0; i < 3; i += (1)) print(i);
+  pfor (int i = 3; i > 0; i += -1) print(i);
+  pfor (int i = 1; i < 9; i *= 2) print(i);
+  pfor (int i = 0; i < 6; i++) { print(i); i = i + 1; }
+  pfor (int i = 0; i < 6; i++) { print(i); { if (i == 2) { i++; } } }
+  pfor (int i = 0; i < 6; i++) { for (; i % 3 != 0; i++) emit(66); print(i); }
+  int i = 1;
+  pfor (; i < 3; i++) print(i);
+  return 0;
+}
+",
+        input: b"",
+        text: b"0\n1\n2\n0\n1\n2\n3\n2\n1\n1\n2\n4\n8\n0\n2\n4\n0\n1\n2\n4\n5\n0\nBB3\nBB6\n1\n2\n",
+        returned: 0,
+        turns: Some(26),
+    },
+    Program {
+        name: "forms/counters/nested",
+        source: br"// Marked loops in marked ones, all with counters: the outer one is a region, and runs the inner ones plainly.
+// Whole turns: 6.
+int m[12];
+
+void row(int i) {
+  pfor (int j = 0; j < 4; j++) m[i * 4 + j] = i * 10 + j;
+}
+
+int main() {
+  pfor (int i = 2; i >= 0; i--) row(i);
+  int k;
+  pfor (int i = 0; i < 3; i++) {
+    pfor (k = 3; k >= 0; k--) print(m[i * 4 + k]);
+    print(k);
+  }
+  print(k);
+  return 0;
+}
+",
+        input: b"",
+        text: b"3\n2\n1\n0\n-1\n13\n12\n11\n10\n-1\n23\n22\n21\n20\n-1\n-1\n",
         returned: 0,
         turns: Some(6),
     },
     Program {
-        name: "forms/counters/steps",
-        source: br"// Steps up, down and by 0, and the counter behind the loop.
+        name: "forms/counters/parameter",
+        source: br"// A parameter is the counter, and is returned.
+// Whole turns: 11.
+int sum;
+
+int f(int n, int least) {
+  pfor (n = n * 2; n > least; n -= 3) sum += n;
+  return n;
+}
+
 int main() {
-  int i;
-  pfor (i = 0; i < 10; i += 3) print(i);
-  print(i);
-  pfor (i = 10; i > 0; i -= 4) print(i);
-  print(i);
-  pfor (i = 3; i >= 0; i--) print(i);
-  print(i);
-  int n = 0;
-  pfor (i = 5; n < 3; i += 0) {
-    n++;
-    print(i + n);
+  print(f(5, 1));
+  print(f(10, -4));
+  print(f(1, 2));
+  print(sum);
+  return 0;
+}
+",
+        input: b"",
+        text: b"1\n-4\n2\n97\n",
+        returned: 0,
+        turns: Some(11),
+    },
+    Program {
+        name: "forms/counters/read_behind_inner",
+        source: br"// The body reads the counter behind inner loops, which have counters of their own.
+// Whole turns: 4.
+int main() {
+  int total = 0;
+  pfor (int i = 1; i <= 4; i++) {
+    int t = 0;
+    for (int j = 0; j < i; j++) t += j;
+    pfor (int j = 0; j < i; j++) t += i;
+    total += t * i;
+    print(i * 100 + t);
   }
-  print(i);
-  pfor (i = 7; n < 6; i -= 0) n++;
-  print(i);
-  pfor (i = 4; i < 4; i++) print(99);
+  print(total);
+  return 0;
+}
+",
+        input: b"",
+        text: b"101\n205\n312\n422\n135\n",
+        returned: 0,
+        turns: Some(4),
+    },
+    Program {
+        name: "forms/counters/returned",
+        source: br"// Functions return out of their loops, with the counter and without.
+// Whole turns: 13.
+int a[6] = {8, 6, 7, 5, 3, 0};
+
+int place_of(int x) {
+  pfor (int i = 0; i < 6; i++)
+    if (a[i] == x) return i;
+  return -1;
+}
+
+int least_above(int x) {
+  int i;
+  pfor (i = x; ; i += 2) {
+    if (i % 7 == 0) return 100;
+    if (i > x + 3) return i;
+  }
+}
+
+int main() {
+  print(place_of(5));
+  print(place_of(9));
+  print(least_above(1));
+  print(least_above(13));
+  return 0;
+}
+",
+        input: b"",
+        text: b"3\n-1\n5\n17\n",
+        returned: 0,
+        turns: Some(13),
+    },
+    Program {
+        name: "forms/counters/shadowed",
+        source: br"// The body has a local of the counter's name, and assigns that one.
+// Whole turns: 6.
+int main() {
+  pfor (int i = 0; i < 3; i++) {
+    print(i);
+    int i = 50;
+    i = i + 1;
+    print(i);
+  }
+  int i = 9;
+  pfor (int j = i - 7; j < 5; j += 1) print(j);
   print(i);
   return 0;
 }
-// Whole turns: 17.
 ",
         input: b"",
-        text: b"0\n3\n6\n9\n12\n10\n6\n2\n-2\n3\n2\n1\n0\n-1\n6\n7\n8\n5\n7\n4\n",
+        text: b"0\n51\n1\n51\n2\n51\n2\n3\n4\n9\n",
         returned: 0,
-        turns: Some(17),
+        turns: Some(6),
+    },
+    Program {
+        name: "forms/counters/step_of_nothing",
+        source: br"// Steps of 0: the counter stays, and the loop is left by `break`.
+// Whole turns: 5.
+int count;
+
+int main() {
+  int i;
+  pfor (i = 7; ; i += 0) {
+    count++;
+    if (count == 3) break;
+    print(i);
+  }
+  print(i + count);
+  pfor (int j = -2; j < 0; j -= 0) {
+    count++;
+    print(j * count);
+    if (count == 7) break;
+  }
+  return 0;
+}
+",
+        input: b"",
+        text: b"7\n7\n10\n-8\n-10\n-12\n-14\n",
+        returned: 0,
+        turns: Some(5),
     },
     Program {
         name: "forms/counters/tables",
@@ -200,6 +307,24 @@ int main() {
         text: b"225\n120\n115\n210\n1240\n",
         returned: 0,
         turns: Some(51),
+    },
+    Program {
+        name: "forms/counters/two_of_them",
+        source: br"// Of two locals that are declared, the step counts one; a step over both is none.
+// Whole turns: 10.
+int main() {
+  pfor (int i = 3, j = 5; j > 0; j--) print(i * j);
+  pfor (int i = 0, j = 2; i < 5; i++) {
+    j += i;
+    print(j);
+  }
+  return 0;
+}
+",
+        input: b"",
+        text: b"15\n12\n9\n6\n3\n2\n3\n5\n8\n12\n",
+        returned: 0,
+        turns: Some(10),
     },
     Program {
         name: "forms/counters/ways_out",
@@ -234,5 +359,27 @@ int main() {
         text: b"1\n7\n13\n19\n22\n6\n10\n-1\n4\n",
         returned: 0,
         turns: None,
+    },
+    Program {
+        name: "forms/counters/wrapping",
+        source: br"// Counters that wrap: past the greatest number, past the least, and by steps as great as a number can be.
+// Whole turns: 7.
+int main() {
+  int i;
+  pfor (i = 2147483646; i > 0; i++) print(i);
+  print(i);
+  pfor (i = -2147483647; i < 0; i--) print(i);
+  print(i);
+  pfor (i = 5; i != 3; i += 2147483647) print(i);
+  print(i);
+  pfor (i = -3; i < 2147483640; i -= 2147483647) print(i);
+  print(i);
+  return 0;
+}
+",
+        input: b"",
+        text: b"2147483646\n2147483647\n-2147483648\n-2147483647\n-2147483648\n2147483647\n5\n-2147483644\n3\n-3\n2147483646\n",
+        returned: 0,
+        turns: Some(7),
     },
 ];
