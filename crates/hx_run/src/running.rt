@@ -1,6 +1,8 @@
 // A source and an input to a finish.
 
-ghost use Rattle.std.specs.Prelude.{◌≡◌, ◌⊎◌, ◌↔◌, IfOk, IfErr, OnOk, IsErrOf, IsTrue};
+ghost use Rattle.std.specs.Prelude.{◌≡◌, ◌⊎◌, ◌↔◌, All, IfOk, IfErr, OnOk, IsErrOf, IsTrue};
+ghost use Rattle.std.specs.Int.{w32};
+ghost use Rattle.std.specs.Int.RustNames.{FitsSigned};
 ghost use Rattle.hx_code.specs.Machine.{InputFits};
 ghost use Rattle.hx_run.specs.Headline.{AreInRange, IsFinishOf, IsPlainRanOf, RefusesRun};
 ghost use Rattle.hx_run.specs.Runs.{EndsSo, PlainlySo, RefusesInput};
@@ -51,6 +53,15 @@ fn run_code<R: Threads + Wait + Sync, G: Gate>(
         }
     }
     unreachable!()
+}
+
+// The numbers of an input are numbers of 32 bits, which the counters of loops are computed in. It changes nothing.
+fn known(input: &[i32])
+    ensures { All (FitsSigned w32) input.now }
+{
+    for word in input {
+        let _number = *word;
+    }
 }
 
 /// What so many words of a run come to.
@@ -126,6 +137,7 @@ pub(crate) fn run_in_range<R: Threads + Wait + Sync, G: Gate>(
     ensures finish { IfOk result (IsFinishOf source.now input.now) }
     ensures refused { IfErr result (RefusesRun source.now input.now) }
 {
+    known(input);
     let code = compile(alloc, source)?;
     run_code(alloc, rt, &code, input, settings, stack, gate)
 }
@@ -143,6 +155,7 @@ pub fn run_plain(
     ensures ran { IfOk result (IsPlainRanOf source.now input.now steps) }
     ensures refused { IfErr result (RefusesRun source.now input.now) }
 {
+    known(input);
     let code = compile(alloc, source)?;
     run_code_for(alloc, &code, input, steps)
 }

@@ -3,4 +3,4 @@ use Rattle.hx_run.proofs.running.run_plain.Goals as goal
 
 pub returns-clause-ran : goal.returns-clause-ran
 returns-clause-ran c =
-    ran_if_ok c.args.source.now c.args.input.now c.in_ok-code.code c.args.steps c.run_code_for.result c.type_inv.input c.in_ok-code.ensures.code c.run_code_for.ensures.ran c.run_code_for.ensures.fits
+    ran_if_ok c.args.source.now c.args.input.now c.in_ok-code.code c.args.steps c.run_code_for.result c.known.ensures c.in_ok-code.ensures.code c.run_code_for.ensures.ran c.run_code_for.ensures.fits
