@@ -53,7 +53,11 @@ fn in_turn(alloc: Global, workers: u32) -> Result<Vec<u8>, Fail> {
     let mut worker = 0;
     for _turn in 0..TURNS {
         schedule.push(worker)?;
-        worker = if u32::from(worker) + 1 < workers { worker + 1 } else { 0 };
+        worker = if u32::from(worker) + 1 < workers {
+            worker + 1
+        } else {
+            0
+        };
     }
     Ok(schedule)
 }
@@ -267,8 +271,19 @@ fn a_schedule_is_played(rt: HostRuntime) -> Result<(), Fail> {
             assert!(&rt; trace.state == State::Left);
             assert_eq!(&rt; trace.store.as_slice().first(), Some(&2));
             let counts = trace.counts;
-            assert_eq!(&rt; [counts.turns, counts.repeats, counts.violations, counts.restarts], [2, 1, 1, 1]);
-            assert_eq!(&rt; [counts.holds, counts.abandons, counts.discarded], [0, 0, 0]);
+            assert_eq!(&rt;
+                [
+                    counts.turns,
+                    counts.repeats,
+                    counts.violations,
+                    counts.restarts
+                ],
+                [2, 1, 1, 1]
+            );
+            assert_eq!(&rt;
+                [counts.holds, counts.abandons, counts.discarded],
+                [0, 0, 0]
+            );
         }
         Err(_) => assert!(&rt; false),
     }
@@ -282,7 +297,15 @@ fn a_beginning_is_played(rt: HostRuntime) -> Result<(), Fail> {
             assert!(&rt; trace.state == State::Running);
             assert_eq!(&rt; trace.store.as_slice().first(), Some(&0));
             let counts = trace.counts;
-            assert_eq!(&rt; [counts.turns, counts.repeats, counts.violations, counts.restarts], [0, 0, 1, 1]);
+            assert_eq!(&rt;
+                [
+                    counts.turns,
+                    counts.repeats,
+                    counts.violations,
+                    counts.restarts
+                ],
+                [0, 0, 1, 1]
+            );
         }
         Err(_) => assert!(&rt; false),
     }

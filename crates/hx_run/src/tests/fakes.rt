@@ -234,7 +234,10 @@ fn two_turns(alloc: Global) -> Result<Code, Fail> {
 #[test]
 fn a_true_board_is_worked_to_its_end(rt: HostRuntime) -> Result<(), Fail> {
     let code = two_turns(rt.alloc())?;
-    assert_eq!(&rt; works_to_the_end(&rt, rt.alloc(), &code, 1000, Lie::Ended)?, (2, true));
+    assert_eq!(&rt;
+        works_to_the_end(&rt, rt.alloc(), &code, 1000, Lie::Ended)?,
+        (2, true)
+    );
     Ok(())
 }
 
@@ -244,7 +247,10 @@ fn a_lie_loses_no_turn(rt: HostRuntime) -> Result<(), Fail> {
     let code = two_turns(rt.alloc())?;
     for at in 0..20 {
         for lie in [Lie::Full, Lie::NotYet] {
-            assert_eq!(&rt; works_to_the_end(&rt, rt.alloc(), &code, at, lie)?, (2, true));
+            assert_eq!(&rt;
+                works_to_the_end(&rt, rt.alloc(), &code, at, lie)?,
+                (2, true)
+            );
         }
     }
     Ok(())
