@@ -1,6 +1,6 @@
 // What each command does.
 
-ghost use Rattle.std.specs.Prelude.{◌≤◌, ◌≢◌};
+ghost use Rattle.std.specs.Prelude.{◌≤◌, ◌≡◌, ◌≢◌, IfOk};
 ghost use Rattle.hx_answer.specs.declared.status.Status.TheVariants as status;
 
 use crate::files::{input_of, open_source};
@@ -24,7 +24,9 @@ fn inputs_of<R: Files + AllocGlobal, E: Write>(
     rt: &R,
     paths: &Paths<'_>,
     err: &mut E,
-) -> Result<(Vec<i32>, Reading<R::File>), Status> {
+) -> Result<(Vec<i32>, Reading<R::File>), Status>
+    ensures { IfOk result (λ r. r.1.failures ≡ 0) }
+{
     let input = input_of(rt, paths.input, err)?;
     let source = open_source(rt, paths.source, err)?;
     Ok((input, source))

@@ -1,5 +1,7 @@
 // What a command reads: sources and input texts.
 
+ghost use Rattle.std.specs.Prelude.{◌≡◌, IfOk};
+
 use hx_answer::{Status, tell_memory, tell_read_failed, tell_refusal};
 use hx_device::{ReadError, Reading, read_all};
 use hx_run::parse_input;
@@ -8,12 +10,14 @@ use std::fs::File;
 use std::io::Write;
 use std::rt::Files;
 
-/// The source in a file that opens.
+/// The source in a file that opens, of which no read has failed yet.
 pub(crate) fn open_source<R: Files, E: Write>(
     rt: &R,
     path: &str,
     err: &mut E,
-) -> Result<Reading<R::File>, Status> {
+) -> Result<Reading<R::File>, Status>
+    ensures { IfOk result (λ s. s.failures ≡ 0) }
+{
     match File::open(rt, path) {
         Ok(file) => Ok(Reading::new(file)),
         Err(_) => Err(tell_read_failed(err)),

@@ -1,5 +1,7 @@
 // Marked loops by a board and its frames on one thread: the workers take one step each in turn, until the loop has ended.
 
+ghost use Rattle.std.specs.Prelude.{◌≡◌};
+
 use crate::compile;
 use hx_board::State;
 use hx_code::code::Code;
@@ -47,17 +49,13 @@ fn fault(kind: FaultKind, line: u32, col: u32) -> State {
     })
 }
 
-// So many workers, one after another, again and again.
-fn in_turn(alloc: Global, workers: u32) -> Result<Vec<u8>, Fail> {
+// The workers from 0 to the last, one after another, again and again.
+fn in_turn(alloc: Global, last: u8) -> Result<Vec<u8>, Fail> {
     let mut schedule = Vec::with_capacity(alloc, TURNS as usize)?;
     let mut worker = 0;
     for _turn in 0..TURNS {
         schedule.push(worker)?;
-        worker = if u32::from(worker) + 1 < workers {
-            worker + 1
-        } else {
-            0
-        };
+        worker = if worker < last { worker + 1 } else { 0 };
     }
     Ok(schedule)
 }
@@ -76,6 +74,24 @@ fn replayed(
     Ok(replay(alloc, code, at.region(), &entry, workers, rooms, schedule))
 }
 
+// The first marked loop of a code.
+fn loop_of(
+    alloc: Global,
+    code: &Code,
+    input: &[i32],
+    workers: u32,
+    rooms: Capacities,
+    schedule: &[u8],
+) -> Result<Result<Trace, TraceError>, Fail> {
+    let Ok(plain) = Plain::new(alloc, code, input) else {
+        return Err(Fail::from("no machine"));
+    };
+    match plain.to_region(STEPS) {
+        Paused::At(open) => replayed(alloc, code, &open, workers, rooms, schedule),
+        _ => Err(Fail::from("no region")),
+    }
+}
+
 // The first marked loop of a program.
 fn first_loop(
     alloc: Global,
@@ -85,15 +101,9 @@ fn first_loop(
     rooms: Capacities,
     schedule: &[u8],
 ) -> Result<Result<Trace, TraceError>, Fail> {
-    let Ok(code) = compile(alloc, source) else {
-        return Err(Fail::from("refused"));
-    };
-    let Ok(plain) = Plain::new(alloc, &code, input) else {
-        return Err(Fail::from("no machine"));
-    };
-    match plain.to_region(STEPS) {
-        Paused::At(open) => replayed(alloc, &code, &open, workers, rooms, schedule),
-        _ => Err(Fail::from("no region")),
+    match compile(alloc, source) {
+        Ok(code) => loop_of(alloc, &code, input, workers, rooms, schedule),
+        Err(_) => Err(Fail::from("refused")),
     }
 }
 
@@ -107,13 +117,14 @@ fn is_of(rt: &impl Abort, row: Row<'_>, trace: &Trace) {
 
 fn all_hold(rt: &impl Abort, alloc: Global, rows: &[Row<'_>]) -> Result<(), Fail> {
     for row in rows {
-        for workers in [1, 2] {
+        for last in [0, 1] {
             for room in [1, 4096] {
                 let rooms = Capacities {
                     marks: room,
                     buffer: room,
                 };
-                let schedule = in_turn(alloc, workers)?;
+                let schedule = in_turn(alloc, last)?;
+                let workers = u32::from(last) + 1;
                 let steps = schedule.as_slice();
                 match first_loop(alloc, row.source, row.input, workers, rooms, steps)? {
                     Ok(trace) => is_of(rt, *row, &trace),
@@ -244,7 +255,7 @@ fn holds_on_a_board(rt: HostRuntime) -> Result<(), Fail> {
         marks: 1,
         buffer: 1,
     };
-    let schedule = in_turn(rt.alloc(), 1)?;
+    let schedule = in_turn(rt.alloc(), 0)?;
     match first_loop(rt.alloc(), row.source, &[], 1, rooms, schedule.as_slice())? {
         Ok(trace) => assert_eq!(&rt; trace.counts.holds, 4),
         Err(_) => assert!(&rt; false),

@@ -90,9 +90,8 @@ fn tells_of_failed_devices(rt: HostRuntime) {
         let failures = Failures { read, write: NEVER };
         executes(&rt, alloc, run, 1, failures, Err(Refusal::ReadFailed), b"");
     }
-    let beginnings: [&[u8]; 4] = [b"", b"5\n", b"5\n", b"5\nend "];
-    let mut write = 0;
-    for text in beginnings {
+    let beginnings: [(u64, &[u8]); 4] = [(0, b""), (1, b"5\n"), (2, b"5\n"), (3, b"5\nend ")];
+    for (write, text) in beginnings {
         let failures = Failures { read: NEVER, write };
         executes(
             &rt,
@@ -103,7 +102,6 @@ fn tells_of_failed_devices(rt: HostRuntime) {
             Err(Refusal::WriteFailed),
             text,
         );
-        write += 1;
     }
 }
 

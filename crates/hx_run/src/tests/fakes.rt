@@ -166,8 +166,8 @@ fn works_over<M: Made + Send + Sync, W: Wait>(
     at: u64,
     lie: Lie,
 ) -> Result<Shown, Fail>
-    requires fits { EntryFits job.entry.code.now job.entry.region entry.now }
-    requires own { setup_by job.entry.code.now job.entry.region entry.now 1 ROOMS ≡ M.setup }
+    requires fits { EntryFits job.code.now job.region entry.now }
+    requires own { setup_by job.code.now job.region entry.now 1 ROOMS ≡ M.setup }
 {
     let code = job.code;
     let board = Board::new(alloc, job, entry, 1, ROOMS)?;

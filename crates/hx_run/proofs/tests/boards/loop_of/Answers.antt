@@ -1,7 +1,7 @@
 -- The machine at the region has the code that the machine was made of.
 use Rattle.std.proofs.Common.{ap, sym, ◌∙◌}
 use Rattle.hx_word.specs.Plain.{PlainView, one_store}
-use Rattle.hx_run.proofs.tests.boards.first_loop.Goals as goal
+use Rattle.hx_run.proofs.tests.boards.loop_of.Goals as goal
 
 pub replayed-requires : goal.replayed-requires
 replayed-requires c =
