@@ -4,7 +4,7 @@ use Rattle.hx_word.specs.Plain.{PlainView, one_store}
 use Rattle.hx_run.proofs.tests.fakes.works_to_the_end.Goals as goal
 
 pub works_at-requires : goal.works_at-requires
-works_at-requires c =
+works_at-requires g c =
     let is = ap (λ (p : PlainView). p.machine) c.in-Ok.ensures.opening in
     let one = ap one_store is ∙ sym is in
     (c.in-At.ensures c.in-Ok.plain.machine one).4 ∙ ap (λ (p : PlainView). p.code) c.in-Ok.ensures.opening
