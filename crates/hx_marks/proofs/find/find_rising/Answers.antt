@@ -1,0 +1,12 @@
+use Rattle.std.proofs.Common.{arith, ◌+◌}
+use Rattle.hx_marks.proofs.Windows.{found_in_window, none_in_window}
+use Rattle.hx_marks.proofs.find.find_rising.Goals as goal
+
+pub returns-in-Some : goal.returns-in-Some
+returns-in-Some c =
+    let found = c.in-Some.ensures in
+    found_in_window c.args.words.now c.args.word c.near-start.result (c.near-start.result + 16) (omega arith) (omega arith) c.near-start.ensures.before c.in-Some.place found.0 found.1 found.2
+
+pub returns-in-None : goal.returns-in-None
+returns-in-None c =
+    none_in_window c.args.words.now c.args.word c.near-start.result (c.near-start.result + 16) (omega arith) (omega arith) c.near-start.ensures.before c.near-start.ensures.behind c.in-None.ensures
