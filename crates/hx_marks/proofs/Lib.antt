@@ -1,3 +1,4 @@
+pub mod Columns
 pub mod Lanes
 pub mod Tables
 pub mod Windows

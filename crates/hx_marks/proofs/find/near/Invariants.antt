@@ -5,7 +5,7 @@ abbrev pub invariant-loop-count : goal.invariant-loop-count
 invariant-loop-count l = record {
   within : l.start + l.count ≤ length l.words;
   before : (i : ℕ) → i < l.start → slice_index l.words i < l.word;
-  behind : (i : ℕ) → l.start + l.count ≤ i → i < length l.words → l.word < slice_index l.words i
+  behind : (i : ℕ) → l.start + l.count ≤ i → i < length l.words → l.word < slice_index l.words i;
 }
 
 abbrev pub decreases-loop-count : goal.decreases-loop-count

@@ -4,7 +4,7 @@ use Rattle.hx_marks.proofs.find.place_for.Given as goal
 abbrev pub invariant-loop-place : goal.invariant-loop-place
 invariant-loop-place l = record {
   within : l.place ≤ length l.words;
-  behind : (i : ℕ) → l.place ≤ i → i < length l.words → l.word < slice_index l.words i
+  behind : (i : ℕ) → l.place ≤ i → i < length l.words → l.word < slice_index l.words i;
 }
 
 abbrev pub decreases-loop-place : goal.decreases-loop-place
