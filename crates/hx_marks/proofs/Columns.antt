@@ -1,9 +1,10 @@
 -- Words and their values, side by side.
-use Rattle.std.proofs.Common.{◌≡◌, ◌≢◌, ℕ, zero, suc, ℤ, ◌<◌, ◌≤◌, [], ◌∷◌, List, true, false, ◌==◌, Some, None, refl, sym, ap, ap₂, ◌∙◌, arith, length, slice_index, slice_get, get_or, slice_set, insert, map, subst}
+use Rattle.std.proofs.Common.{◌≡◌, ◌≢◌, ℕ, zero, suc, ℤ, ◌<◌, ◌≤◌, [], ◌∷◌, List, true, false, ◌==◌, Some, None, refl, sym, ap, ap₂, ◌∙◌, arith, length, slice_index, slice_get, get_or, slice_set, insert, map, subst, inl, inr}
 use Rattle.std.specs.Prelude.{nat_lt}
+use Rattle.std.proofs.lemmas.Bool.{cases_lt}
 use Rattle.std.proofs.lemmas.Bool.Decides.{nat_tests}
 use Rattle.hx_marks.specs.declared.marks.Entry.{Entry}
-use Rattle.hx_marks.specs.Place.{NoneBelow, Rises}
+use Rattle.hx_marks.specs.Place.{NoneBelow, Rises, IsBetween}
 use Rattle.hx_marks.specs.Table.{Table, AreAbove, IsRising, look, put, tabled}
 
 pub length_tabled : (ws : List ℕ) (vs : List ℤ) → length ws ≡ length vs → length (tabled ws vs) ≡ length ws
@@ -37,6 +38,12 @@ look_nowhere (w ∷ ws) (v ∷ vs) a none =
     let no : (w == a) ≡ false = grind (arith, nat_tests, other) in
     rw no (look_nowhere ws vs a (λ i l. none (suc i) (omega (arith, l))))
 
+none_between : (ws : List ℕ) (a k : ℕ) → IsBetween ws a k → NoneBelow ws a (length ws)
+none_between ws a k between i h e = elim (cases_lt i k) [
+  | inl low ↦ omega (arith, between.0 i low, e)
+  | inr high ↦ omega (arith, between.1 i high h, e)
+]
+
 above_at : (ws : List ℕ) (vs : List ℤ) (b k : ℕ) → length ws ≡ length vs → AreAbove b (tabled ws vs) → k < length ws → b < slice_index ws k
 above_at [] vs b k h above lt = absurd (omega (arith, lt))
 above_at (w ∷ ws) [] b k h above lt = absurd (omega (arith, h))
@@ -64,20 +71,20 @@ set_is_put (w ∷ ws) (x ∷ vs) a (suc k) v h r lt is =
     rw less (ap (λ (t : Table). record { word = w; value = x } ∷ t) (set_is_put ws vs a k v (omega (arith, h)) r.1 (omega (arith, lt)) is))
 
 -- a word and its value where all before are below it, and all behind above
-pub insert_is_put : (ws : List ℕ) (vs : List ℤ) (a k : ℕ) (v : ℤ) → length ws ≡ length vs → k ≤ length ws → ((i : ℕ) → i < k → slice_index ws i < a) → ((i : ℕ) → k ≤ i → i < length ws → a < slice_index ws i) → tabled (insert ws k a) (insert vs k v) ≡ put (tabled ws vs) a v
-insert_is_put [] [] a zero v h le before behind = refl
-insert_is_put [] [] a (suc k) v h le before behind = absurd (omega (arith, le))
-insert_is_put [] (x ∷ vs) a k v h le before behind = absurd (omega (arith, h))
-insert_is_put (w ∷ ws) [] a k v h le before behind = absurd (omega (arith, h))
-insert_is_put (w ∷ ws) (x ∷ vs) a zero v h le before behind =
-    let above : a < w = behind 0 (omega arith) (omega arith) in
+pub insert_is_put : (ws : List ℕ) (vs : List ℤ) (a k : ℕ) (v : ℤ) → length ws ≡ length vs → k ≤ length ws → IsBetween ws a k → tabled (insert ws k a) (insert vs k v) ≡ put (tabled ws vs) a v
+insert_is_put [] [] a zero v h le between = refl
+insert_is_put [] [] a (suc k) v h le between = absurd (omega (arith, le))
+insert_is_put [] (x ∷ vs) a k v h le between = absurd (omega (arith, h))
+insert_is_put (w ∷ ws) [] a k v h le between = absurd (omega (arith, h))
+insert_is_put (w ∷ ws) (x ∷ vs) a zero v h le between =
+    let above : a < w = between.1 0 (omega arith) (omega arith) in
     let not_less : nat_lt w a ≡ false = grind (arith, nat_tests, above) in
     let no : (w == a) ≡ false = grind (arith, nat_tests, above) in
     rw (not_less, no) refl
-insert_is_put (w ∷ ws) (x ∷ vs) a (suc k) v h le before behind =
-    let below : w < a = before 0 (omega arith) in
+insert_is_put (w ∷ ws) (x ∷ vs) a (suc k) v h le between =
+    let below : w < a = between.0 0 (omega arith) in
     let less : nat_lt w a ≡ true = grind (arith, nat_tests, below) in
-    rw less (ap (λ (t : Table). record { word = w; value = x } ∷ t) (insert_is_put ws vs a k v (omega (arith, h)) (omega (arith, le)) (λ i l. before (suc i) (omega (arith, l))) (λ i l m. behind (suc i) (omega (arith, l)) (omega (arith, m)))))
+    rw less (ap (λ (t : Table). record { word = w; value = x } ∷ t) (insert_is_put ws vs a k v (omega (arith, h)) (omega (arith, le)) (λ i l. between.0 (suc i) (omega (arith, l)), λ i l m. between.1 (suc i) (omega (arith, l)) (omega (arith, m)))))
 
 words_back : (ws : List ℕ) (vs : List ℤ) → length ws ≡ length vs → map (λ (e : Entry). e.word) (tabled ws vs) ≡ ws
 words_back [] vs h = refl
@@ -116,14 +123,13 @@ module _ (ws s : List ℕ) (vs : List ℤ) (es : Table) (slice : s ≡ ws) (seen
   seen_least a k v lt is none iv =
       ap (λ (t : Table). look t a) (sym seen) ∙ look_least ws vs a k v long (subst (λ (l : List ℕ). k < length l) slice lt) (subst (λ (l : List ℕ). slice_index l k ≡ a) slice is) (subst (λ (l : List ℕ). NoneBelow l a k) slice none) iv
 
-  pub seen_nowhere : (a : ℕ) → NoneBelow s a (length s) → look es a ≡ None
-  seen_nowhere a none = ap (λ (t : Table). look t a) (sym seen) ∙ look_nowhere ws vs a (subst (λ (l : List ℕ). NoneBelow l a (length l)) slice none)
+  pub seen_nowhere : (a k : ℕ) → IsBetween s a k → look es a ≡ None
+  seen_nowhere a k between = ap (λ (t : Table). look t a) (sym seen) ∙ look_nowhere ws vs a (subst (λ (l : List ℕ). NoneBelow l a (length l)) slice (none_between s a k between))
 
   pub seen_set : (a k : ℕ) (v : ℤ) → k < length s → slice_index s k ≡ a → tabled ws (slice_set vs k v) ≡ put es a v
   seen_set a k v lt is =
       set_is_put ws vs a k v long rises (subst (λ (l : List ℕ). k < length l) slice lt) (subst (λ (l : List ℕ). slice_index l k ≡ a) slice is) ∙ ap (λ (t : Table). put t a v) seen
 
-  pub seen_insert : (a k : ℕ) (v : ℤ) → NoneBelow s a (length s) → k ≤ length s → ((i : ℕ) → i < k → slice_index s i ≤ a) → ((i : ℕ) → k ≤ i → i < length s → a < slice_index s i) → tabled (insert ws k a) (insert vs k v) ≡ put es a v
-  seen_insert a k v none le before behind =
-      let below : (i : ℕ) → i < k → slice_index s i < a = λ i l. omega (arith, before i l, none i (omega (arith, l, le))) in
-      insert_is_put ws vs a k v long (subst (λ (l : List ℕ). k ≤ length l) slice le) (subst (λ (l : List ℕ). (i : ℕ) → i < k → slice_index l i < a) slice below) (subst (λ (l : List ℕ). (i : ℕ) → k ≤ i → i < length l → a < slice_index l i) slice behind) ∙ ap (λ (t : Table). put t a v) seen
+  pub seen_insert : (a k : ℕ) (v : ℤ) → k ≤ length s → IsBetween s a k → tabled (insert ws k a) (insert vs k v) ≡ put es a v
+  seen_insert a k v le between =
+      insert_is_put ws vs a k v long (subst (λ (l : List ℕ). k ≤ length l) slice le) (subst (λ (l : List ℕ). IsBetween l a k) slice between) ∙ ap (λ (t : Table). put t a v) seen

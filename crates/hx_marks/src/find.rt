@@ -1,9 +1,9 @@
 // The place of a word among others, 16 at a time.
 
-ghost use Rattle.std.specs.Prelude.{◌≡◌, ℕ, ◌+◌, ◌-◌, ◌<◌, ◌≤◌, ◌==◌, not, length, slice_index};
+ghost use Rattle.std.specs.Prelude.{◌≡◌, ℕ, ◌+◌, ◌-◌, ◌<◌, ◌≤◌, ◌==◌, not, length, slice_index, IfOk, IfErr};
 ghost use Rattle.std.specs.List.{prefix_len};
 ghost use Rattle.std.specs.Simd.Lanes.{chunk};
-ghost use Rattle.hx_marks.specs.Place.{IsLeastPlace, Rises};
+ghost use Rattle.hx_marks.specs.Place.{NoneBelow, IsLeastPlace, Rises, IsBetween};
 
 use std::simd::prelude::*;
 
@@ -43,29 +43,39 @@ fn run_before(words: &[u32], at: usize, word: u32) -> u32
     if hits == 0 { 16 } else { hits.trailing_zeros() }
 }
 
-// The same as `find_tag`, of words that rise: all but 16 are left out by halves first.
-pub(crate) fn find_rising(words: &[u32], word: u32) -> Option<usize>
+// The place of a word among words that rise, or else where it is to be put. All but 16 are left out by halves; fewer than 16 are
+// looked at one by one, from the end.
+pub(crate) fn search(words: &[u32], word: u32) -> Result<usize, usize>
     requires { Rises words.now }
-    ensures { IsLeastPlace words.now word result }
+    ensures found { IfOk result (λ k. (k < length words.now) × (slice_index words.now k ≡ word) × NoneBelow words.now word k) }
+    ensures missing { IfErr result (λ k. (k ≤ length words.now) × IsBetween words.now word k) }
 {
-    if words.len() <= LANES {
-        return find_tag(words, word);
+    let mut end = words.len();
+    if end >= LANES {
+        let start = near(words, word);
+        end = start + LANES;
+        if let Some(place) = find_tag(&words[start..end], word) {
+            return Ok(start + place);
+        }
     }
-    let start = near(words, word);
-    match find_tag(&words[start..start + LANES], word) {
-        Some(place) => Some(start + place),
-        None => None,
+    let place = count_from(words, end, word);
+    if place > 0 && words[place - 1] == word {
+        Ok(place - 1)
+    } else {
+        Err(place)
     }
 }
 
-// How many of the words, which rise, aren't above a word.
-pub(crate) fn place_for(words: &[u32], word: u32) -> usize
-    requires { Rises words.now }
+// How many of the words, which rise, aren't above a word, where all from a place on are.
+fn count_from(words: &[u32], end: usize, word: u32) -> usize
+    requires rises { Rises words.now }
+    requires room { end ≤ length words.now }
+    requires above { (i : ℕ) → end ≤ i → i < length words.now → word < slice_index words.now i }
     ensures within { result ≤ length words.now }
     ensures before { (i : ℕ) → i < result → slice_index words.now i ≤ word }
     ensures behind { (i : ℕ) → result ≤ i → i < length words.now → word < slice_index words.now i }
 {
-    let mut place = words.len().min(near(words, word) + LANES);
+    let mut place = end;
     while place > 0 && words[place - 1] > word {
         place -= 1;
     }

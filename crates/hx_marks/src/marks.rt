@@ -1,9 +1,10 @@
 // A bounded map from store words to values.
 
-ghost use Rattle.std.specs.Prelude.{◌≡◌, ◌↔◌, ◌≤◌, ◌<◌, [], length, slice_get, Some, None, IfOk, OnOk, OnErr, IsErr, IsTrue};
+ghost use Rattle.std.specs.Prelude.{◌≡◌, ◌↔◌, ◌≤◌, ◌<◌, [], length, slice_get, Some, None, IfOk, OnOk, OnErr, IsErr, IsTrue, vec_len, vec_capacity};
+ghost use Rattle.std.specs.List.{insert};
 ghost use Rattle.hx_marks.specs.Table.{look, put, IsRising};
 
-use crate::find::{find_rising, place_for};
+use crate::find::search;
 use std::alloc::{AllocError, Global};
 use std::marker::Model;
 use thiserror::Error;
@@ -59,9 +60,9 @@ impl Marks {
     pub fn get(&self, word: u32) -> Option<i32>
         ensures { result ≡ look self.now.entries word }
     {
-        match find_rising(self.words.as_slice(), word) {
-            Some(place) => Some(self.values[place]),
-            None => None,
+        match search(self.words.as_slice(), word) {
+            Ok(place) => Some(self.values[place]),
+            Err(_) => None,
         }
     }
 
@@ -73,21 +74,17 @@ impl Marks {
         ensures full { IsErr result ↔ ((look self.old.entries word ≡ None) × (self.old.capacity ≤ length self.old.entries)) }
         ensures kept { OnErr result (self.new ≡ self.old) }
     {
-        if let Some(place) = find_rising(self.words.as_slice(), word) {
-            self.values[place] = value;
-            return Ok(());
-        }
-        if self.words.len() >= self.capacity {
-            return Err(Full);
-        }
-        let place = place_for(self.words.as_slice(), word);
-        match self.words.insert(place, word) {
-            Ok(()) => {}
-            Err(_) => unreachable!(),
-        }
-        match self.values.insert(place, value) {
-            Ok(()) => Ok(()),
-            Err(_) => unreachable!(),
+        match search(self.words.as_slice(), word) {
+            Ok(place) => {
+                self.values[place] = value;
+                Ok(())
+            }
+            Err(_) if self.words.len() >= self.capacity => Err(Full),
+            Err(place) => {
+                put_in(&mut self.words, place, word);
+                put_in(&mut self.values, place, value);
+                Ok(())
+            }
         }
     }
 
@@ -143,4 +140,22 @@ fn same_values(a: &[i32], b: &[i32]) -> bool
     ensures { IsTrue result ↔ (a.now ≡ b.now) }
 {
     a == b
+}
+
+// Puts an item at a place of a vector that has room for it.
+fn put_in<T: Copy>(items: &mut Vec<T>, place: usize, item: T)
+    requires within { place ≤ length items.old.items }
+    requires room { vec_len items.old < vec_capacity items.old }
+    ensures items { items.new.items ≡ insert items.old.items place item }
+    ensures capacity { vec_capacity items.old ≤ vec_capacity items.new }
+{
+    let put = if place == items.len() {
+        items.push(item)
+    } else {
+        items.insert(place, item)
+    };
+    match put {
+        Ok(()) => {}
+        Err(_) => unreachable!(),
+    }
 }

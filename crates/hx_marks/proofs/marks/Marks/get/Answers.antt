@@ -3,17 +3,17 @@ use Rattle.hx_marks.specs.Table.{MapView, look}
 use Rattle.hx_marks.proofs.Columns.{slice_rises, seen_least, seen_nowhere}
 use Rattle.hx_marks.proofs.marks.Marks.get.Goals as goal
 
-pub find_rising-requires : goal.find_rising-requires
-find_rising-requires c =
+pub search-requires : goal.search-requires
+search-requires c =
     slice_rises c.self.inside.words.items c.as_slice.result.now c.self.inside.values.items c.args.self.now.entries c.as_slice.ensures.value (ap (λ (v : MapView). v.entries) c.self.view_is) c.self.invariant.0 c.self.invariant.1
 
-pub returns-in-Some : goal.returns-in-Some
-returns-in-Some c =
-    let place = c.in-Some.ensures in
+pub returns-in-Ok : goal.returns-in-Ok
+returns-in-Ok c =
+    let place = c.in-Ok.ensures.found in
     let found : look c.args.self.now.entries c.args.word ≡ Some c.index.result.now =
-    seen_least c.self.inside.words.items c.as_slice.result.now c.self.inside.values.items c.args.self.now.entries c.as_slice.ensures.value (ap (λ (v : MapView). v.entries) c.self.view_is) c.self.invariant.0 c.self.invariant.1 c.args.word c.in-Some.place c.index.result.now place.0 place.1 place.2 c.index.ensures in
+    seen_least c.self.inside.words.items c.as_slice.result.now c.self.inside.values.items c.args.self.now.entries c.as_slice.ensures.value (ap (λ (v : MapView). v.entries) c.self.view_is) c.self.invariant.0 c.self.invariant.1 c.args.word c.in-Ok.place c.index.result.now place.0 place.1 place.2 c.index.ensures in
     search rules
 
-pub returns-in-None : goal.returns-in-None
-returns-in-None c =
-    sym (seen_nowhere c.self.inside.words.items c.as_slice.result.now c.self.inside.values.items c.args.self.now.entries c.as_slice.ensures.value (ap (λ (v : MapView). v.entries) c.self.view_is) c.self.invariant.0 c.self.invariant.1 c.args.word c.in-None.ensures)
+pub returns-in-Err : goal.returns-in-Err
+returns-in-Err c =
+    sym (seen_nowhere c.self.inside.words.items c.as_slice.result.now c.self.inside.values.items c.args.self.now.entries c.as_slice.ensures.value (ap (λ (v : MapView). v.entries) c.self.view_is) c.self.invariant.0 c.self.invariant.1 c.args.word c.in-Err.field-0 c.in-Err.ensures.missing.1)

@@ -1,5 +1,5 @@
 use Rattle.std.proofs.Common.{ℕ, ◌<◌, ◌≤◌, length, slice_index}
-use Rattle.hx_marks.proofs.find.place_for.Given as goal
+use Rattle.hx_marks.proofs.find.count_from.Given as goal
 
 abbrev pub invariant-loop-place : goal.invariant-loop-place
 invariant-loop-place l = record {
