@@ -27,3 +27,9 @@ module _ (words : List ℕ) (a start end : ℕ) (room : start ≤ end) (within :
         let place : start + p - start ≡ p = omega arith in
         let at = window_at (start + p) (omega arith) (omega (arith, lt, long, room)) in
         (omega (arith, lt, long, within, room), sym at ∙ ap (slice_index (take (end - start) (drop start words))) place ∙ is, none_before p (omega (arith, lt, long, room)) none)
+
+    pub none_in_window : ((i : ℕ) → end ≤ i → i < length words → a < slice_index words i) → NoneBelow (take (end - start) (drop start words)) a (length (take (end - start) (drop start words))) → NoneBelow words a (length words)
+    none_in_window behind none k h e = elim (cases_lt k end) [
+      | inl low ↦ none_before (end - start) (omega (arith, room)) (let long = window_long in λ i lt. none i (omega (arith, lt, long))) k (omega (arith, low, room)) e
+      | inr high ↦ omega (arith, behind k high h, e)
+    ]

@@ -50,19 +50,18 @@ pub(crate) fn search(words: &[u32], word: u32) -> Result<usize, usize>
     ensures found { IfOk result (λ k. (k < length words.now) × (slice_index words.now k ≡ word) × NoneBelow words.now word k) }
     ensures missing { IfErr result (λ k. (k ≤ length words.now) × IsBetween words.now word k) }
 {
-    let mut end = words.len();
-    if end >= LANES {
-        let start = near(words, word);
-        end = start + LANES;
-        if let Some(place) = find_tag(&words[start..end], word) {
-            return Ok(start + place);
-        }
+    if words.len() < LANES {
+        let place = count_from(words, words.len(), word);
+        return if place > 0 && words[place - 1] == word {
+            Ok(place - 1)
+        } else {
+            Err(place)
+        };
     }
-    let place = count_from(words, end, word);
-    if place > 0 && words[place - 1] == word {
-        Ok(place - 1)
-    } else {
-        Err(place)
+    let start = near(words, word);
+    match find_tag(&words[start..start + LANES], word) {
+        Some(place) => Ok(start + place),
+        None => Err(count_from(words, start + LANES, word)),
     }
 }
 

@@ -149,13 +149,15 @@ fn put_in<T: Copy>(items: &mut Vec<T>, place: usize, item: T)
     ensures items { items.new.items ≡ insert items.old.items place item }
     ensures capacity { vec_capacity items.old ≤ vec_capacity items.new }
 {
-    let put = if place == items.len() {
-        items.push(item)
-    } else {
-        items.insert(place, item)
-    };
-    match put {
+    match items.push(item) {
         Ok(()) => {}
         Err(_) => unreachable!(),
     }
+    let items = items.as_mut_slice();
+    let mut at = items.len() - 1;
+    while at > place {
+        items[at] = items[at - 1];
+        at -= 1;
+    }
+    items[place] = item;
 }
