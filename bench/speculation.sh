@@ -5,7 +5,8 @@
 #   bench/speculation.sh [ROUNDS]      the best of so many rounds, 3 if none is named
 #
 # Groups: (a) independent turns that compute much and touch memory little; (b) turns that touch memory at each step; (c) turns
-# that each need the one before. Where valgrind is installed, (d) the price of a call on a board: the instructions of each kind,
+# that each need the one before. The column `4 at once` is what the machine itself has to give: how many times as much work four `plain`
+# runs beside one another do in the time of one. Where valgrind is installed, (d) the price of a call on a board: the instructions of each kind,
 # by callgrind, on one worker, over all calls of that kind in the programs of (c).
 #
 # The proved program is wanted: (cd crates/hydra && rt run -- --help) builds it.
@@ -29,7 +30,13 @@ best_of() {
   echo "$best"
 }
 
-printf '%-14s %9s %11s %11s %11s\n' program 'plain ms' '1 worker' '2 workers' '4 workers'
+# four runs of the program on one thread, beside one another
+four_at_once() {
+  for _ in 1 2 3 4; do "$hydra" plain "$1" --steps 10000000000 > /dev/null & done
+  wait
+}
+
+printf '%-14s %9s %11s %11s %11s %11s\n' program 'plain ms' '1 worker' '2 workers' '4 workers' '4 at once'
 for row in a:mandelbrot a:collatz a:queens b:sieve b:matrix b:prefix c:list c:sum; do
   name=${row#*:}
   source=speculation/$name.hc
@@ -41,9 +48,10 @@ for row in a:mandelbrot a:collatz a:queens b:sieve b:matrix b:prefix c:list c:su
     cmp -s "$work/printed" "$work/wanted" || { echo "$name prints something else on $workers workers" >&2; exit 1; }
     times="$times $took"
   done
-  echo "(${row%%:*}) $name $plain $times" | awk '{ printf "%-14s %9d", $1 " " $2, $3
-    for (i = 4; i <= NF; i++) printf " %10.2fx", $3 / ($i + 0.5)
-    print "" }'
+  beside=$(best_of four_at_once "$source")
+  echo "(${row%%:*}) $name $plain $times $beside" | awk '{ printf "%-14s %9d", $1 " " $2, $3
+    for (i = 4; i < NF; i++) printf " %10.2fx", $3 / ($i + 0.5)
+    printf " %10.2fx\n", 4 * $3 / ($NF + 0.5) }'
 done
 
 command -v valgrind > /dev/null || exit 0

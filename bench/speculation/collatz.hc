@@ -1,5 +1,5 @@
 // The longest Collatz sequence in each block of 256 starts, a turn for each block.
-int longest[128];
+int longest[256];
 int length(int start) {
   int n = start;
   int steps = 0;
@@ -11,7 +11,7 @@ int length(int start) {
   return steps;
 }
 int main() {
-  pfor (int block = 0; block < 128; block++) {
+  pfor (int block = 0; block < 256; block++) {
     int best = 0;
     for (int k = 1; k <= 256; k++) {
       int steps = length(block * 256 + k);
@@ -20,7 +20,7 @@ int main() {
     longest[block] = best;
   }
   int most = 0;
-  for (int block = 0; block < 128; block++) if (longest[block] > most) most = longest[block];
+  for (int block = 0; block < 256; block++) if (longest[block] > most) most = longest[block];
   print(most);
   return 0;
 }

@@ -1,8 +1,6 @@
 -- From a refusal to the answer that tells it.
-use Rattle.std.proofs.Common.{◌≡◌, ℕ, ℤ, Bool, true, false, if◌then◌else◌, List, Option, refl, sym, inl, inr}
+use Rattle.std.proofs.Common.{◌≡◌, ℕ, ℤ, Bool, true, false, if◌then◌else◌, List, Option, refl, inr}
 use Rattle.hx_code.specs.Code.{CodeView}
-use Rattle.hx_trace.specs.declared.trace.Trace.{Trace}
-use Rattle.hx_trace.specs.Text.{listing_of}
 use Rattle.hx_trace.specs.declared.trace.TraceError.TheVariants as schedule
 use Rattle.hx_run.specs.declared.refusal.Refusal.{Refusal}
 use Rattle.hx_run.specs.declared.refusal.Refusal.TheVariants as refusal
@@ -10,12 +8,13 @@ use Rattle.hx_run.specs.Refusals.{is_memory, is_of_device, RefusesSource}
 use Rattle.hx_run.specs.Executions.{IsOfReading, IsReadOf}
 use Rattle.hx_answer.specs.declared.replaying.NoTrace.{NoTrace}
 use Rattle.hx_answer.specs.declared.replaying.NoTrace.TheVariants as no_trace
+use Rattle.hx_answer.specs.declared.replaying.Replayed.{Replayed}
 use Rattle.hx_answer.specs.declared.replaying.Schedule.{Schedule}
 use Rattle.hx_answer.specs.declared.status.Status.{Status}
 use Rattle.hx_answer.specs.declared.status.Status.TheVariants as status
 use Rattle.hx_answer.specs.Statuses.{status_of_no_trace, status_of_refusal}
 use Rattle.hx_answer.specs.Replays.{IsReplayOf, RefusesReplay}
-use Rattle.hx_answer.specs.Answers.{failed_devices, CodeAnswer, ReplayAnswer, ShowsText}
+use Rattle.hx_answer.specs.Answers.{failed_devices, CodeAnswer, IsShown, ReplayAnswer, ShowsText}
 use Rattle.hx_answer.proofs.Statuses.{run_fails_no_device}
 
 -- ---- what is made of code
@@ -86,11 +85,11 @@ replay_fails_no_device bytes input asked no_trace.NotEnded h = refl
 replay_fails_no_device bytes input asked (no_trace.Schedule schedule.NoSuchWorker) h = refl
 replay_fails_no_device bytes input asked (no_trace.Schedule schedule.Memory) h = refl
 
--- a trace that is shown
-pub replay_shown : (input : List ℤ) (asked : Schedule) (source rest old new : Option (List ℕ)) (bytes : List ℕ) (t : Trace) (s : Status) → IsReadOf source rest bytes
-    → IsReplayOf bytes input asked t → ShowsText (listing_of t) old new s → ReplayAnswer input asked source rest old new s
-replay_shown input asked source rest old new bytes t status.Done is h shown = record { bytes = bytes; is_read = is; says = (t, h, shown) }
-replay_shown input asked source rest old new bytes t status.Device is h shown = tt
-replay_shown input asked source rest old new bytes t status.Fault is h shown = absurd shown
-replay_shown input asked source rest old new bytes t status.Refused is h shown = absurd shown
-replay_shown input asked source rest old new bytes t status.Memory is h shown = absurd shown
+-- a replay that is shown
+pub replay_shown : (input : List ℤ) (asked : Schedule) (source rest old new : Option (List ℕ)) (bytes text : List ℕ) (r : Replayed) (s : Status) → IsReadOf source rest bytes
+    → IsReplayOf bytes input asked r.told → IsShown asked.shown r text → ShowsText text old new s → ReplayAnswer input asked source rest old new s
+replay_shown input asked source rest old new bytes text r status.Done is h of shown = record { bytes = bytes; is_read = is; says = (r, h, text, of, shown) }
+replay_shown input asked source rest old new bytes text r status.Device is h of shown = tt
+replay_shown input asked source rest old new bytes text r status.Fault is h of shown = absurd shown
+replay_shown input asked source rest old new bytes text r status.Refused is h of shown = absurd shown
+replay_shown input asked source rest old new bytes text r status.Memory is h of shown = absurd shown

@@ -10,7 +10,7 @@ use Rattle.hx_word.specs.Plain.{PlainView, one_store}
 use Rattle.hx_word.specs.Ran.{ReachedFrom}
 use Rattle.hx_run.specs.Headline.{IsCodeOf}
 use Rattle.hx_run.proofs.Headline.{refuses_run}
-use Rattle.hx_trace.specs.declared.trace.Trace.{Trace}
+use Rattle.hx_trace.specs.declared.trace.Told.{Told}
 use Rattle.hx_trace.specs.declared.trace.TraceError.{TraceError}
 use Rattle.hx_trace.specs.declared.trace.TraceError.TheVariants as schedule
 use Rattle.hx_answer.specs.declared.replaying.NoTrace.{NoTrace}
@@ -27,10 +27,10 @@ reaches code input plain n steps r made fits found =
 
 -- digits of workers are their numbers
 pub numbers_below : (n : ℕ) (digits : List ℕ) → All (IsWorker n) digits → All (λ w. w < n) (map digit digits)
-numbers_below n digits all = All-map (λ w. w < n) digit digits (λ k d l. (all k d l).2)
+numbers_below n digits all = All-map (λ w. w < n) digit digits (λ k d l. (all k d l).1)
 
 -- so a replay that was given them refuses for want of memory alone
-pub workers_are_there : (settings : Settings) (digits numbers : List ℕ) (r : Result Trace TraceError) → numbers ≡ map digit digits → All (IsWorker settings.workers) digits
+pub workers_are_there : (settings : Settings) (digits numbers : List ℕ) (r : Result Told TraceError) → numbers ≡ map digit digits → All (IsWorker settings.workers) digits
     → (r ≡ Err schedule.NoSuchWorker) ↔ (All (λ w. w < settings.workers) numbers → ⊥) → IfErr r (RefusesWorkers settings digits)
 workers_are_there settings digits numbers (Ok t) same all told = tt
 workers_are_there settings digits numbers (Err schedule.NoSuchWorker) same all told =

@@ -5,7 +5,7 @@ use Rattle.hx_run.specs.declared.executing.Done.{Done}
 use Rattle.hx_run.specs.declared.executing.Done.TheVariants.{Finished, NotEnded}
 use Rattle.hx_run.specs.declared.refusal.Refusal.{Refusal}
 use Rattle.hx_run.specs.declared.refusal.Refusal.TheVariants as refusal
-use Rattle.hx_run.specs.Refusals.{is_memory, is_of_device, RefusesSource}
+use Rattle.hx_run.specs.Refusals.{is_memory}
 use Rattle.hx_run.specs.Headline.{RefusesRun}
 use Rattle.hx_run.specs.Executions.{failed_read, failed_reads, failed_write, failed_writes, IsOfReading}
 use Rattle.hx_answer.specs.declared.status.Status.TheVariants as status

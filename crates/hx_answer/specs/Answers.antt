@@ -4,8 +4,8 @@ use Rattle.std.specs.Io.KnownBytes.{Appends}
 use Rattle.hx_tree.specs.declared.outcome.Settings.{Settings}
 use Rattle.hx_code.specs.Code.{CodeView}
 use Rattle.hx_lower.specs.Listing.{listing_of as words_of}
-use Rattle.hx_trace.specs.declared.trace.Trace.{Trace}
-use Rattle.hx_trace.specs.Text.{listing_of as text_of}
+use Rattle.hx_trace.specs.Text.{listing_of as trace_text}
+use Rattle.hx_trace.specs.Telling.{told_listing}
 use Rattle.hx_run.specs.declared.executing.Mode.{Mode}
 use Rattle.hx_run.specs.declared.executing.Done.{Done}
 use Rattle.hx_run.specs.declared.refusal.Refusal.{Refusal}
@@ -13,8 +13,10 @@ use Rattle.hx_run.specs.declared.refusal.Refusal.TheVariants as refusal
 use Rattle.hx_run.specs.Refusals.{RefusesSource}
 use Rattle.hx_run.specs.Headline.{AreInRange, IsCodeOf}
 use Rattle.hx_run.specs.Executions.{IsDone, OfRead, Refuses, RefusesSettings}
-use Rattle.hx_answer.specs.declared.replaying.NoTrace.{NoTrace}
+use Rattle.hx_answer.specs.declared.replaying.Replayed.{Replayed}
 use Rattle.hx_answer.specs.declared.replaying.Schedule.{Schedule}
+use Rattle.hx_answer.specs.declared.replaying.Shown.{Shown}
+use Rattle.hx_answer.specs.declared.replaying.Shown.TheVariants as shown
 use Rattle.hx_answer.specs.declared.status.Status.{Status}
 use Rattle.hx_answer.specs.declared.status.Status.TheVariants as status
 use Rattle.hx_answer.specs.Statuses.{status_of_execution, status_of_no_trace, status_of_refusal}
@@ -75,9 +77,16 @@ WordsAnswer = CodeAnswer words_of
 abbrev pub RefusesAsked : List ℤ → Schedule → Option (List ℕ) → Option (List ℕ) → Type 0
 RefusesAsked input asked source rest = (AreInRange asked.settings → ⊥) ⊎ OfRead source rest (λ bytes. IsRefused status_of_no_trace (RefusesReplay bytes input asked))
 
+-- the text that is shown of a replay; of a timeline nothing is said
+abbrev pub IsShown : Shown → Replayed → List ℕ → Type 0
+IsShown shown.Trace r text = text ≡ trace_text r.told.trace
+IsShown shown.Events r text = text ≡ told_listing r.names.items r.told
+IsShown shown.Picture r text = Unit {0}
+IsShown shown.Table r text = Unit {0}
+
 -- the command `replay`
 abbrev pub ReplayAnswer : List ℤ → Schedule → Option (List ℕ) → Option (List ℕ) → Option (List ℕ) → Option (List ℕ) → Status → Type 0
-ReplayAnswer input asked source rest old new status.Done = OfRead source rest (λ bytes. (t : Trace) × IsReplayOf bytes input asked t × Appends old new (text_of t))
+ReplayAnswer input asked source rest old new status.Done = OfRead source rest (λ bytes. (r : Replayed) × IsReplayOf bytes input asked r.told × (text : List ℕ) × IsShown asked.shown r text × Appends old new text)
 ReplayAnswer input asked source rest old new status.Refused = RefusesAsked input asked source rest × (new ≡ old)
 ReplayAnswer input asked source rest old new status.Memory = new ≡ old
 ReplayAnswer input asked source rest old new status.Device = Unit {0}

@@ -1,3 +1,4 @@
 pub mod Statuses
 pub mod Replays
 pub mod Answers
+pub mod Explanations

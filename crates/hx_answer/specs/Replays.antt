@@ -1,5 +1,5 @@
 -- What a schedule is replayed on, and what comes of it.
-use Rattle.std.specs.Prelude.{◌≡◌, ◌⊎◌, ℕ, ◌-◌, ◌<◌, ◌≤◌, ℤ, List, All, map}
+use Rattle.std.specs.Prelude.{◌≡◌, ◌⊎◌, ℕ, ◌-◌, ◌<◌, ◌≤◌, ℤ, List, All, map, nat_lt, if◌then◌else◌}
 use Rattle.hx_tree.specs.declared.outcome.Settings.{Settings}
 use Rattle.hx_code.specs.Code.{CodeView}
 use Rattle.hx_code.specs.Machine.{opening_machine, InputFits}
@@ -8,25 +8,28 @@ use Rattle.hx_word.specs.declared.plain.Reached.{Reached}
 use Rattle.hx_word.specs.declared.plain.Reached.TheVariants as reached
 use Rattle.hx_word.specs.Ran.{ReachedFrom}
 use Rattle.hx_frame.specs.declared.frame.Capacities.{Capacities}
-use Rattle.hx_run.specs.declared.refusal.Refusal.{Refusal}
 use Rattle.hx_run.specs.Headline.{IsCodeOf, RefusesRun}
 use Rattle.hx_run.specs.Runs.{RefusesInput}
-use Rattle.hx_trace.specs.declared.trace.Trace.{Trace}
+use Rattle.hx_trace.specs.declared.trace.Told.{Told}
 use Rattle.hx_trace.specs.declared.trace.TraceError.{TraceError}
 use Rattle.hx_trace.specs.declared.trace.TraceError.TheVariants as schedule
-use Rattle.hx_trace.specs.Trace.{board_after, IsTraceOf, ShowsPlain}
+use Rattle.hx_trace.specs.Trace.{board_after, events_from, IsTraceOf, ShowsPlain}
 use Rattle.hx_answer.specs.declared.replaying.NoTrace.{NoTrace}
 use Rattle.hx_answer.specs.declared.replaying.NoTrace.TheVariants as no_trace
 use Rattle.hx_answer.specs.declared.replaying.Schedule.{Schedule}
 
 -- ---- digits
 
+-- the number of a digit, '0' to '9' and then 'a' to 'f'
 abbrev pub digit : ℕ → ℕ
-digit byte = byte - 48
+digit byte = if nat_lt byte 97 then byte - 48 else byte - 87
 
--- the digit, '0' to '9', of one of so many workers
+abbrev pub IsDigit : ℕ → Type 0
+IsDigit byte = ((48 ≤ byte) × (byte ≤ 57)) ⊎ ((97 ≤ byte) × (byte ≤ 102))
+
+-- the digit of one of so many workers
 abbrev pub IsWorker : ℕ → ℕ → Type 0
-IsWorker workers byte = (48 ≤ byte) × (byte ≤ 57) × (digit byte < workers)
+IsWorker workers byte = IsDigit byte × (digit byte < workers)
 
 -- 40 means that a byte is no worker's digit, and 41 nothing
 abbrev pub RefusesWorkers : Settings → List ℕ → TraceError → Type 0
@@ -50,14 +53,15 @@ RefusesEntry code input n steps (no_trace.Schedule e) = ⊥
 abbrev pub rooms : Settings → Capacities
 rooms settings = record { marks = settings.marks; buffer = settings.buffer }
 
--- a trace is that of the schedule, from this entry of this region
-pub record IsFrom (code : CodeView) (region : ℕ) (entry : Entry) (settings : Settings) (digits : List ℕ) (t : Trace) : Type 0 where
+-- a trace is that of the schedule, from this entry of this region, and so are the events
+pub record IsFrom (code : CodeView) (region : ℕ) (entry : Entry) (settings : Settings) (digits : List ℕ) (t : Told) : Type 0 where
   pub workers : All (IsWorker settings.workers) digits
-  pub is_trace : IsTraceOf (board_after code region entry settings.workers (rooms settings) (map digit digits)) t
-  pub plain : ShowsPlain code region entry t
+  pub is_trace : IsTraceOf (board_after code region entry settings.workers (rooms settings) (map digit digits)) t.trace
+  pub plain : ShowsPlain code region entry t.trace
+  pub events : t.events.items ≡ events_from code region entry settings.workers (rooms settings) (map digit digits)
 
--- a trace is that of the schedule, from the entry of the n-th region of a run of the source on the input
-pub record IsReplayOf (source : List ℕ) (input : List ℤ) (asked : Schedule) (t : Trace) : Type 0 where
+-- a trace is that of the schedule, from the entry of the n-th region of a run of the source on the input, and so are the events
+pub record IsReplayOf (source : List ℕ) (input : List ℤ) (asked : Schedule) (t : Told) : Type 0 where
   pub code : CodeView
   pub is_code : IsCodeOf source code
   pub region : ℕ

@@ -1,5 +1,5 @@
 -- The exit status of a command, by how it ends.
-use Rattle.std.specs.Prelude.{ℕ, Bool, true, false, if◌then◌else◌, Result, Ok, Err}
+use Rattle.std.specs.Prelude.{ℕ, if◌then◌else◌, Result, Ok, Err}
 use Rattle.hx_tree.specs.declared.outcome.End.{End}
 use Rattle.hx_tree.specs.declared.outcome.End.TheVariants.{Normal, Fault}
 use Rattle.hx_trace.specs.declared.trace.TraceError.TheVariants as schedule

@@ -3,9 +3,14 @@
 #![tactic(auto)]
 
 mod answer;
+mod digits;
+mod explaining;
 mod replaying;
 mod status;
 
 pub use answer::{answer_check, answer_execution, answer_replay, answer_words};
-pub use replaying::{NoTrace, Schedule, trace_of};
-pub use status::{Status, tell_memory, tell_read_failed, tell_refusal, tell_write_failed};
+pub use explaining::{Asked, Kept, answer_explain, explain_check, explain_execution};
+pub use replaying::{NoTrace, Replayed, Schedule, Shown, replay_of};
+pub use status::{
+    Status, tell_memory, tell_no_number, tell_read_failed, tell_refusal, tell_write_failed,
+};

@@ -6,10 +6,12 @@ ghost use Rattle.hx_answer.specs.Replays.{digit, IsFrom, IsReplayOf, IsWorker, R
 ghost use Rattle.hx_answer.specs.declared.replaying.NoTrace.TheVariants as no_trace;
 ghost use Rattle.hx_word.specs.declared.plain.Reached.TheVariants as reached;
 
+use crate::digits::{are_workers, numbers_of};
 use hx_code::code::Code;
 use hx_frame::Capacities;
-use hx_run::{Refusal, compile};
-use hx_trace::{Trace, TraceError, replay};
+use hx_names::names_of;
+use hx_run::{Refusal, compile, parse_source};
+use hx_trace::{Called, Told, TraceError, replay_told};
 use hx_tree::outcome::Settings;
 use hx_word::entry::Entry;
 use hx_word::plain::{Plain, Reached};
@@ -25,8 +27,30 @@ pub struct Schedule<'a> {
     pub steps: u64,
     /// How many workers there are, and how much their tables hold.
     pub settings: Settings,
-    /// A digit for each entry, the number of its worker.
+    /// A digit for each entry, the number of its worker: `0` to `9`, and `a` to `f` for 10 to 15.
     pub digits: &'a [u8],
+    /// What is shown of it.
+    pub shown: Shown,
+}
+
+/// What is shown of a replay.
+#[derive(Clone, Copy, PartialEq, Eq, Debug)]
+pub enum Shown {
+    /// The listing of its trace.
+    Trace,
+    /// A line for each of its events, and that listing.
+    Events,
+    /// A picture of its events, as SVG.
+    Picture,
+    /// A table of them.
+    Table,
+}
+
+/// What a schedule came to, and what the words are called that its events tell of.
+#[derive(Drop)]
+pub struct Replayed {
+    pub told: Told,
+    pub names: Vec<Called>,
 }
 
 /// Why there is no trace.
@@ -88,33 +112,15 @@ fn reach(
     }
 }
 
-// Whether each byte is the digit of one of so many workers.
-fn are_workers(digits: &[u8], workers: u32) -> bool
-    ensures { IsTrue result ↔ All (IsWorker workers) digits.now }
-{
-    digits.iter().all(|byte| *byte >= b'0' && *byte <= b'9' && u32::from(*byte - b'0') < workers)
-}
-
-// The numbers of digits.
-fn numbers_of(alloc: Global, digits: &[u8]) -> Result<Vec<u8>, AllocError>
-    ensures { IfOk result (λ v. v.items ≡ map digit digits.now) }
-{
-    let mut numbers = Vec::with_capacity(alloc, digits.len())?;
-    for byte in digits {
-        numbers.push(byte.saturating_sub(b'0'))?;
-    }
-    Ok(numbers)
-}
-
-// The trace of a schedule from a region's entry.
-fn trace_from(
+// What a schedule comes to from a region's entry.
+fn told_from(
     alloc: Global,
     code: &Code,
     region: u32,
     entry: &Entry,
     settings: Settings,
     digits: &[u8],
-) -> Result<Trace, TraceError>
+) -> Result<Told, TraceError>
     requires { EntryFits code.now region entry.now }
     ensures told { IfOk result (IsFrom code.now region entry.now settings digits.now) }
     ensures refused { IfErr result (RefusesWorkers settings digits.now) }
@@ -130,7 +136,7 @@ fn trace_from(
         buffer: settings.buffer,
     };
     let slots = settings.workers;
-    replay(
+    replay_told(
         alloc,
         code,
         region,
@@ -143,19 +149,37 @@ fn trace_from(
 
 /// Replays a schedule on a region of the run of a source on an input.
 ///
-/// An `Ok` is the trace of the schedule from the region's entry, as `hx_trace::replay` promises it. Refusals, in this order: those of
-/// `hx_run::compile`; 61; `NoEntry` and `NotEnded`; 40 where a byte of the schedule is no worker's digit. 41 and the other refusals for
-/// want of memory say nothing. The settings are looked at no further than that.
-pub fn trace_of(
+/// An `Ok` is the trace of the schedule from the region's entry and its events, as `hx_trace::replay_told` promises them, and what the
+/// words of that region are called. Refusals, in this order: those of `hx_run::compile`; 61; `NoEntry` and `NotEnded`; 40 where a byte
+/// of the schedule is no worker's digit. 41 and the other refusals for want of memory say nothing. The settings are looked at no further
+/// than that, and what is shown not at all.
+pub fn replay_of(
     alloc: Global,
     source: &[u8],
     input: &[i32],
     asked: &Schedule<'_>,
-) -> Result<Trace, NoTrace>
-    ensures told { IfOk result (IsReplayOf source.now input.now asked.now) }
+) -> Result<Replayed, NoTrace>
+    ensures told { IfOk result (λ r. IsReplayOf source.now input.now asked.now r.told) }
     ensures refused { IfErr result (RefusesReplay source.now input.now asked.now) }
 {
     let code = compile(alloc, source)?;
     let (region, entry) = reach(alloc, &code, input, asked.nth, asked.steps)?;
-    Ok(trace_from(alloc, &code, region, &entry, asked.settings, asked.digits)?)
+    let told = told_from(alloc, &code, region, &entry, asked.settings, asked.digits)?;
+    let Ok(names) = names_in(alloc, source, &code, region) else {
+        return Err(NoTrace::Refused(Refusal::Memory));
+    };
+    Ok(Replayed { told, names })
+}
+
+// What the words of a region of a source's code are called. The source has been read before, so an `Err` is for want of memory.
+fn names_in(
+    alloc: Global,
+    source: &[u8],
+    code: &Code,
+    region: u32,
+) -> Result<Vec<Called>, AllocError> {
+    let Ok(program) = parse_source(alloc, source) else {
+        return Err(AllocError);
+    };
+    names_of(alloc, &program, code, region)
 }

@@ -40,8 +40,8 @@ impl Status {
     }
 }
 
-// A line for a person, which is lost where the stream takes none.
-fn tell<E: Write>(err: &mut E, line: &[u8]) {
+/// A text for a person, which is lost where the stream takes none.
+pub(crate) fn tell<E: Write>(err: &mut E, line: &[u8]) {
     let _ = err.write_all(line);
 }
 
@@ -67,6 +67,14 @@ pub fn tell_memory<E: Write>(err: &mut E) -> Status
 {
     tell(err, b"hydra: memory\n");
     Status::Memory
+}
+
+/// A number that no refusal and no fault has.
+pub fn tell_no_number<E: Write>(err: &mut E) -> Status
+    ensures { result ≡ status.Refused }
+{
+    tell(err, b"hydra: no such number\n");
+    Status::Refused
 }
 
 // A run that isn't over.

@@ -1,10 +1,13 @@
-//! Codes written by hand, each run for so many words by the plain machine, so that words can be timed and counted:
-//! `hx_bench CODE WORDS`, where CODE is `locals`, `arrays`, `calls` or `globals`. `bench/words.sh` measures.
+//! Measured by the scripts of `bench/`: codes written by hand, each run for so many words by the plain machine, `hx_bench CODE WORDS`,
+//! where CODE is `locals`, `arrays`, `calls` or `globals`; and a word looked for among others, `hx_bench WAY LENGTH TIMES`, where WAY is
+//! `lanes`, `halves` or `ones`.
 #![tactic(auto)]
 
 mod codes;
+mod finding;
 
 use codes::{Sketch, code_of, sketch_named};
+use finding::{Way, count_found, way_named};
 use hx_word::plain::{Plain, Ran};
 use std::alloc::Global;
 use std::{env, io};
@@ -30,20 +33,46 @@ fn came_of(alloc: Global, sketch: Sketch, words: u64) -> Came {
     }
 }
 
+// What is measured.
+#[derive(Clone, Copy)]
+enum Task {
+    Run(Sketch),
+    Find(Way),
+}
+
+fn task_named(name: &str) -> Option<Task> {
+    if let Some(sketch) = sketch_named(name) {
+        return Some(Task::Run(sketch));
+    }
+    Some(Task::Find(way_named(name)?))
+}
+
+fn do_task(rt: &HostRuntime, task: Task, length: u64, times: u64) -> io::Result<()> {
+    match task {
+        Task::Run(sketch) => match came_of(rt.alloc(), sketch, times) {
+            Came::Ended => println!(rt; "ended within {times} words"),
+            Came::More => println!(rt; "{times} words"),
+            Came::Refused => println!(rt; "refused"),
+        },
+        Task::Find(way) => match count_found(rt.alloc(), way, length, times) {
+            Ok(found) => println!(rt; "{found} found"),
+            Err(_) => println!(rt; "no memory"),
+        },
+    }
+}
+
 fn main(rt: HostRuntime) -> io::Result<()> {
-    let mut sketch = Sketch::Locals;
-    let mut words = 100_000;
+    let mut task = Task::Run(Sketch::Locals);
+    let mut length = 16;
+    let mut times = 100_000;
     for word in env::args(&rt)? {
-        if let Some(named) = sketch_named(word.as_str()) {
-            sketch = named;
+        if let Some(named) = task_named(word.as_str()) {
+            task = named;
         }
         if let Ok(number) = word.as_str().parse::<u64>() {
-            words = number;
+            length = times;
+            times = number;
         }
     }
-    match came_of(rt.alloc(), sketch, words) {
-        Came::Ended => println!(rt; "ended within {words} words"),
-        Came::More => println!(rt; "{words} words"),
-        Came::Refused => println!(rt; "refused"),
-    }
+    do_task(&rt, task, length, times)
 }

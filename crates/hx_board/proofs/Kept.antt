@@ -6,7 +6,7 @@ use Rattle.hx_code.specs.Code.{store_words}
 use Rattle.hx_code.specs.Local.{LocalView}
 use Rattle.hx_code.specs.Region.{held}
 use Rattle.hx_speculation.specs.Slots.{Slot, of_worker, found, Found, with_mark, written, Written, with_write, restarted_from, from_worker, may_restart}
-use Rattle.hx_speculation.specs.Board.{Answer, Board, Load, Write, Abandon, Done, violates, after_load, after_store, abandons, spends, call}
+use Rattle.hx_speculation.specs.Board.{Answer, Board, Load, Write, Abandon, Done, counts_store, after_load, after_store, abandons, spends, call}
 use Rattle.hx_regions.specs.Region.{store_of}
 use Rattle.hx_slots.specs.Slots.{numbered_at}
 use Rattle.hx_board.specs.Board.{BoardView, region_on, board_of, is_over}
@@ -31,8 +31,8 @@ load_kept b w attempt a v over f k =
     }
 
 -- a store that is done
-pub store_kept : (b : BoardView) (w attempt a : ℕ) (v : ℤ) (n : ℕ) (counts : Counts) → is_over b ≡ false → Written.Restarts n ≡ written b.setup.capacities.buffer w attempt a v b.active → counts ≡ violates n b.counts → a < length b.store → IsKept b → IsKept (record b { active = with_write w attempt a v b.active; counts = counts })
-store_kept b w attempt a v n counts over f e lt k =
+pub store_kept : (b : BoardView) (w attempt a : ℕ) (v : ℤ) (n : ℕ) (had : Bool) (counts : Counts) → is_over b ≡ false → Written.Restarts n had ≡ written b.setup.capacities.buffer w attempt a v b.active → counts ≡ counts_store n had b.counts → a < length b.store → IsKept b → IsKept (record b { active = with_write w attempt a v b.active; counts = counts })
+store_kept b w attempt a v n had counts over f e lt k =
     let after : BoardView = record b { active = with_write w attempt a v b.active; counts = counts } in
     let step = runs b (Write w attempt a v) over ∙ sym (ap (after_store w attempt a v (board_of b)) f) in
     let is : Becomes b (Write w attempt a v) after = record { step = ap (λ p. p.1) step ∙ ap (λ (z : Counts). board_of (record after { counts = z })) (sym e); setup = refl } in

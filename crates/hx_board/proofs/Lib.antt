@@ -9,3 +9,4 @@ pub mod Settling
 pub mod Committed
 pub mod Taking
 pub mod Plainly
+pub mod Opened

@@ -73,7 +73,7 @@ abbrev pub is_over : BoardView → Bool
 is_over b = has_ended b.exit b.is_spent
 
 abbrev pub first_counts : Counts
-first_counts = record { regions = 1; turns = 0; repeats = 0; violations = 0; restarts = 0; holds = 0; abandons = 0; discarded = 0 }
+first_counts = record { regions = 1; turns = 0; repeats = 0; violations = 0; restarts = 0; holds = 0; abandons = 0; discarded = 0; spared = 0 }
 
 -- a board on which nothing has run
 abbrev pub opening_board : CodeView → ℕ → Entry → ℕ → Rooms → BoardView

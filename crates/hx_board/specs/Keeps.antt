@@ -1,6 +1,6 @@
 -- What every board keeps.
 use Rattle.std.specs.Prelude.{◌≡◌, ◌≤◌, vec_capacity}
-use Rattle.hx_tree.specs.declared.limits.TheConstants.{TEXT_LIMIT}
+use Rattle.hx_tree.specs.declared.limits.TheConstants.{PRIVATE_LIMIT, TEXT_LIMIT}
 use Rattle.hx_word.specs.Entry.{EntryFits}
 use Rattle.hx_word.specs.Opening.{opened_of}
 use Rattle.hx_word.specs.Running.{IsOpened}
@@ -28,3 +28,4 @@ pub record Kept (b : Inside) : Type 0 where
   pub kept : IsKept (view_of b)
   pub rooms : b.slots.rooms ≡ rooms_of b.capacities
   pub room : TEXT_LIMIT ≤ vec_capacity b.text
+  pub own_room : PRIVATE_LIMIT ≤ vec_capacity b.entry.locals

@@ -4,3 +4,4 @@ pub mod Keeps
 pub mod Calls
 pub mod Effect
 pub mod Ends
+pub mod Again

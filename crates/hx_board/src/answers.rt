@@ -30,7 +30,7 @@ pub enum Loaded {
 /// What comes of a store.
 #[derive(Clone, Copy, PartialEq, Eq, Debug)]
 pub enum Stored {
-    /// The word is in the iteration's write buffer, and those that had read it too early begin again.
+    /// The word is in the iteration's write buffer, and those that don't see there what they had read begin again.
     Done,
     /// The worker has no iteration, or another attempt.
     Squashed,

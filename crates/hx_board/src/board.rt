@@ -10,8 +10,10 @@ ghost use Rattle.hx_board.specs.Calls.{Does, Becomes, IsOwnCode, IsOwnFrame, sta
 ghost use Rattle.hx_board.specs.Known.{IsKept};
 ghost use Rattle.hx_board.specs.Ends.{IsFor, state_of, EndsAs, EndsPlainly};
 
+mod again;
+
 use crate::answers::{Alive, Headed, Loaded, Settled, Started, State, Stored};
-use crate::effect::{Effect, count_restarts, first_counts, takes_effect};
+use crate::effect::{Effect, count_store, first_counts, takes_effect};
 use crate::head::Head;
 use crate::job::{Job, is_same_entry};
 use hx_code::local::Local;
@@ -19,10 +21,11 @@ use hx_code::word::Exit;
 use hx_frame::{Capacities, Frame, Tag};
 use hx_slots::slot::Found;
 use hx_slots::slots::{Slots, Written};
-use hx_tree::limits::TEXT_LIMIT;
+use hx_tree::limits::{PRIVATE_LIMIT, TEXT_LIMIT};
 use hx_tree::outcome::Counts;
-use hx_word::entry::{Entry, RegionEnd, put_words};
+use hx_word::entry::{Entry, RegionEnd, opened_by};
 use hx_word::opened::{Opened, words_behind};
+use hx_word::room::refill_words;
 use std::alloc::{AllocError, Global};
 use std::marker::Model;
 
@@ -71,17 +74,12 @@ impl<'c> Board<'c> {
     {
         let code = job.code;
         code.known();
-        let mut words = [0; 64];
-        put_words(&entry.locals, &mut words);
-        let opened = Opened {
-            region: job.region,
-            below: entry.depth - 1,
-            words,
-            printed: entry.text_len,
-        };
+        let opened = opened_by(code, job.region, entry);
+        let mut locals = Vec::with_capacity(alloc, PRIVATE_LIMIT)?;
+        refill_words(&mut locals, &entry.locals);
         let kept = Entry {
             store: Vec::from_slice(alloc, &entry.store)?,
-            locals: Vec::from_slice(alloc, &entry.locals)?,
+            locals,
             depth: entry.depth,
             text_len: entry.text_len,
         };
@@ -209,8 +207,8 @@ impl<'c> Board<'c> {
         }
     }
 
-    /// A write of the worker's attempt, into its write buffer. The first later iteration that has marked the word begins again, and all
-    /// behind that one.
+    /// A write of the worker's attempt, into its write buffer. The first later iteration whose mark of the word isn't what it sees there
+    /// now begins again, and all behind that one.
     pub fn store(&mut self, worker: u32, attempt: u64, word: u32, value: i32) -> Stored
         requires { word < length self.old.store }
         ensures { Does self.old (Write worker attempt word value) (stored_answer result) self.new }
@@ -219,8 +217,8 @@ impl<'c> Board<'c> {
             return Stored::Ended;
         }
         match self.slots.store(worker, attempt, word, value) {
-            Written::Restarts(count) => {
-                count_restarts(&mut self.counts, count);
+            Written::Restarts { count, had_readers } => {
+                count_store(&mut self.counts, count, had_readers);
                 Stored::Done
             }
             Written::Full => {
@@ -372,6 +370,14 @@ impl<'c> Board<'c> {
         ensures { result ≡ self.now.counts }
     {
         self.counts
+    }
+
+    /// The head's iteration, and the active iterations in order from it.
+    pub fn active(&self) -> (u64, &Slots)
+        ensures head { result.0 ≡ self.now.head }
+        ensures active { result.1.now.active ≡ self.now.active }
+    {
+        (self.head, &self.slots)
     }
 
     /// The committed store, the region's own text, and how far the region is.

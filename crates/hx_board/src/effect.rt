@@ -1,7 +1,7 @@
 // What an iteration that is the head does with what it waits with, and what is counted.
 
 ghost use Rattle.std.specs.Prelude.{◌≡◌, ◌+◌, ◌≤◌, ◌++◌, length, vec_len, vec_capacity};
-ghost use Rattle.hx_speculation.specs.Board.{violates};
+ghost use Rattle.hx_speculation.specs.Board.{counts_store};
 ghost use Rattle.hx_board.specs.Board.{first_counts};
 ghost use Rattle.hx_board.specs.Effect.{effect_of, printed_by};
 
@@ -58,15 +58,18 @@ pub(crate) fn first_counts() -> Counts
         holds: 0,
         abandons: 0,
         discarded: 0,
+        spared: 0,
     }
 }
 
-/// A store that made so many iterations begin again is counted.
-pub(crate) fn count_restarts(counts: &mut Counts, restarted: usize)
-    ensures { counts.new ≡ violates restarted counts.old }
+/// A store is counted that made so many iterations begin again, or none, though a later one had marked the word.
+pub(crate) fn count_store(counts: &mut Counts, restarted: usize, had_readers: bool)
+    ensures { counts.new ≡ counts_store restarted had_readers counts.old }
 {
     if restarted > 0 {
         counts.violations = counts.violations.saturating_add(1);
         counts.restarts = counts.restarts.saturating_add(restarted as u64);
+    } else if had_readers {
+        counts.spared = counts.spared.saturating_add(1);
     }
 }

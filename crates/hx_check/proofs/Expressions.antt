@@ -40,6 +40,9 @@ mutual
   complete (tree.Unary op e) symbols here scopes h = bind_at _ _ _ _ (complete e symbols here scopes h) refl
   complete (tree.Binary op pos l r) symbols here scopes h =
       bind_at _ _ _ _ (complete l symbols here scopes h.0) (bind_at _ _ _ _ (complete r symbols here scopes h.1) refl)
+  complete (tree.Conditional c a b) symbols here scopes h =
+      bind_at _ _ _ _ (complete c symbols here scopes h.0)
+      (bind_at _ _ _ _ (complete a symbols here scopes h.1) (bind_at _ _ _ _ (complete b symbols here scopes h.2) refl))
 
   pub complete_all : (es : tree.Exprs) (symbols : Map Symbol) (here : Here) (scopes : Scopes) (done : List Expr) → AcceptsExprs es (surroundings symbols here scopes) → check_exprs es symbols scopes done ≡ Ok (done ++ list_of (resolve_exprs es symbols scopes))
   complete_all tree.no_exprs symbols here scopes done h = ap (λ l. Ok l) (sym (append-nil done))
@@ -67,6 +70,11 @@ mutual
       let a = bind_ok (check_expr l symbols scopes) _ r h in
       let b = bind_ok (check_expr right symbols scopes) _ r a.2 in
       (sound l symbols here scopes a.0 a.1, sound right symbols here scopes b.0 b.1)
+  sound (tree.Conditional test chosen other) symbols here scopes r h =
+      let a = bind_ok (check_expr test symbols scopes) _ r h in
+      let b = bind_ok (check_expr chosen symbols scopes) _ r a.2 in
+      let c = bind_ok (check_expr other symbols scopes) _ r b.2 in
+      (sound test symbols here scopes a.0 a.1, sound chosen symbols here scopes b.0 b.1, sound other symbols here scopes c.0 c.1)
 
   pub sound_all : (es : tree.Exprs) (symbols : Map Symbol) (here : Here) (scopes : Scopes) (done r : List Expr) → check_exprs es symbols scopes done ≡ Ok r → AcceptsExprs es (surroundings symbols here scopes)
   sound_all tree.no_exprs symbols here scopes done r h = tt

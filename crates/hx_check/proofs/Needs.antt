@@ -25,6 +25,7 @@ height_positive (tree.Call f es) = omega arith
 height_positive (tree.Paren e) = omega arith
 height_positive (tree.Unary o e) = omega arith
 height_positive (tree.Binary o place l r) = omega arith
+height_positive (tree.Conditional c a b) = omega arith
 
 pub assignment_height_positive : (a : tree.Assignment) → 1 ≤ assignment_height a
 assignment_height_positive (tree.Set p e) = omega arith
@@ -42,6 +43,7 @@ stmt_height_positive (tree.Emit pos e) = omega arith
 stmt_height_positive (tree.If test s) = omega arith
 stmt_height_positive (tree.IfElse test s other) = omega arith
 stmt_height_positive (tree.While marked test s) = omega arith
+stmt_height_positive (tree.DoWhile s test) = omega arith
 stmt_height_positive (tree.For marked h s) = omega arith
 stmt_height_positive (tree.Break pos) = omega arith
 stmt_height_positive (tree.Continue pos) = omega arith

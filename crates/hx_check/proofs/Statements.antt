@@ -109,6 +109,8 @@ mutual
   complete_stmt (tree.While marked test s) symbols here scopes k room h =
       bind_at _ _ _ _ (complete test symbols here scopes h.0)
       (bind_at _ _ _ _ (complete_stmt s symbols (reading.inside marked here) scopes k room h.1) refl)
+  complete_stmt (tree.DoWhile s test) symbols here scopes k room h =
+      bind_at _ _ _ _ (complete_stmt s symbols (reading.within_loop here) scopes k room h.0) (bind_at _ _ _ _ (complete test symbols here scopes h.1) refl)
   complete_stmt (tree.For marked f s) symbols here scopes k room h =
       let a = around symbols here in
       let inner : Scopes = words_after_init f.init ([] ∷ scopes) k in
@@ -181,6 +183,14 @@ mutual
       let a = bind_ok (check_expr test symbols scopes) _ r h in
       let b = bind_ok (check_stmt s symbols (reading.inside marked here) (at scopes k)) _ r a.2 in
       (sound test symbols here scopes a.0 a.1, sound_stmt s symbols (reading.inside marked here) scopes k b.0 room b.1)
+  sound_stmt (tree.DoWhile s test) symbols here scopes k r room h =
+      let inner = reading.within_loop here in
+      let a = bind_ok (check_stmt s symbols inner (at scopes k)) _ r h in
+      let first = sound_stmt s symbols inner scopes k a.0 room a.1 in
+      let same : a.0.1 ≡ at scopes (k + stmt_locals s) = ap (λ p. p.1) (same_ok _ _ _ a.1 (complete_stmt s symbols inner scopes k room first)) in
+      let b = bind_ok (check_expr test symbols a.0.1.scopes) _ r a.2 in
+      let second = subst (λ (known : Known). check_expr test symbols known.scopes ≡ Ok b.0) same b.1 in
+      (first, sound test symbols here scopes b.0 second)
   sound_stmt (tree.For marked f s) symbols here scopes k r room h =
       let inner : Scopes = words_after_init f.init ([] ∷ scopes) k in
       let n = k + init_locals f.init in

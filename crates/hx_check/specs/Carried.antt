@@ -6,7 +6,7 @@
 use Rattle.std.specs.Prelude.{ℕ, Bool, false, not, ◌&&◌, ◌||◌, if◌then◌else◌, nat_eq, List, [], ◌∷◌, Option, Some, None}
 use Rattle.std.specs.List.{range_with_len, filter}
 use Rattle.hx_check.specs.declared.resolved.Induct.{Induct}
-use Rattle.hx_check.specs.Resolved.{Expr, Number, Private, Word, Element, Call, Unary, Binary, Exprs, no_exprs, expr_and, Place, ToPrivate, ToWord, ToElement, Assignment, Set, Update, Simple, Declare, Assign, Clauses, Region, Stmt, Block, Do, CallStatement, Print, Emit, If, IfElse, Loop, Break, Continue, Return, Stmts, no_stmts, stmt_and}
+use Rattle.hx_check.specs.Resolved.{Expr, Number, Private, Word, Element, Call, Unary, Binary, Conditional, Exprs, no_exprs, expr_and, Place, ToPrivate, ToWord, ToElement, Assignment, Set, Update, Simple, Declare, Assign, Clauses, Region, Stmt, Block, Do, CallStatement, Print, Emit, If, IfElse, Loop, DoWhile, Break, Continue, Return, Stmts, no_stmts, stmt_and}
 
 abbrev pub if_any : {X : Type 0} → (X → Bool) → Option X → Bool
 if_any test None = false
@@ -27,6 +27,7 @@ abbrev mutual
   expr_reads k (Call f pos es) = exprs_read k es
   expr_reads k (Unary op e) = expr_reads k e
   expr_reads k (Binary op pos l r) = expr_reads k l || expr_reads k r
+  expr_reads k (Conditional test chosen other) = expr_reads k test || expr_reads k chosen || expr_reads k other
 
   pub exprs_read : ℕ → Exprs → Bool
   exprs_read k no_exprs = false
@@ -66,6 +67,7 @@ abbrev mutual
   stmt_reads k (If test s) = expr_reads k test || stmt_reads k s
   stmt_reads k (IfElse test s other) = expr_reads k test || stmt_reads k s || stmt_reads k other
   stmt_reads k (Loop kind c s) = clauses_read k c || stmt_reads k s
+  stmt_reads k (DoWhile s test) = stmt_reads k s || expr_reads k test
   stmt_reads k Break = false
   stmt_reads k Continue = false
   stmt_reads k (Return e) = expr_reads k e
@@ -94,6 +96,7 @@ abbrev mutual
   stmt_assigns k (If test s) = stmt_assigns k s
   stmt_assigns k (IfElse test s other) = stmt_assigns k s || stmt_assigns k other
   stmt_assigns k (Loop kind c s) = clauses_assign k c || stmt_assigns k s
+  stmt_assigns k (DoWhile s test) = stmt_assigns k s
   stmt_assigns k _ = false
 
   pub stmts_assign : ℕ → Stmts → Bool
@@ -113,6 +116,7 @@ abbrev mutual
   stmt_declares k (If test s) = stmt_declares k s
   stmt_declares k (IfElse test s other) = stmt_declares k s || stmt_declares k other
   stmt_declares k (Loop kind c s) = any_of (simple_declares k) c.init || stmt_declares k s
+  stmt_declares k (DoWhile s test) = stmt_declares k s
   stmt_declares k _ = false
 
   pub stmts_declare : ℕ → Stmts → Bool

@@ -22,7 +22,7 @@ use Rattle.hx_check.specs.declared.names.Variable.TheVariants as variable
 use Rattle.hx_check.specs.declared.resolved.Words.{Words}
 use Rattle.hx_check.specs.declared.symbol.Symbol.{Symbol}
 use Rattle.hx_check.specs.declared.symbol.Symbol.TheVariants as symbol
-use Rattle.hx_check.specs.Resolved.{Expr, Number, Private, Word, Element, Call, Unary, Binary, exprs, Place, ToPrivate, ToWord, ToElement, Assignment, Set, Update, Simple, Declare, Assign, Clauses, Stmt, Block, Do, CallStatement, Print, Emit, If, IfElse, Loop, Break, Continue, Return, no_stmts, stmts, Function, Program}
+use Rattle.hx_check.specs.Resolved.{Expr, Number, Private, Word, Element, Call, Unary, Binary, Conditional, exprs, Place, ToPrivate, ToWord, ToElement, Assignment, Set, Update, Simple, Declare, Assign, Clauses, Stmt, Block, Do, CallStatement, Print, Emit, If, IfElse, Loop, DoWhile, Break, Continue, Return, no_stmts, stmts, Function, Program}
 use Rattle.hx_check.specs.Symbols.{Declared, Known, Scopes, private_word, with_word, symbol_at, is_in_scope, numbered}
 use Rattle.hx_check.specs.Counts.{step_counts}
 use Rattle.hx_check.specs.Resolve.{int_word, array_words, kind_if, while_clauses}
@@ -136,6 +136,11 @@ abbrev mutual
     left ← check_expr l symbols scopes
     right ← check_expr r symbols scopes
     Ok (Binary op pos left right)
+  check_expr (tree.Conditional test chosen other) symbols scopes = do
+    test' ← check_expr test symbols scopes
+    chosen' ← check_expr chosen symbols scopes
+    other' ← check_expr other symbols scopes
+    Ok (Conditional test' chosen' other')
 
   -- what is done so far, and then these
   pub check_exprs : tree.Exprs → Map Symbol → Scopes → List Expr → Checks (List Expr)
@@ -235,6 +240,10 @@ out_of_scope known = record { scopes = drop 1 known.scopes; next = known.next }
 abbrev pub inside : Bool → Here → Here
 inside marked here = record here { in_loop = true; is_marked = here.is_marked || marked }
 
+-- the body of a `do`, which is never marked
+abbrev pub within_loop : Here → Here
+within_loop here = record here { in_loop = true }
+
 abbrev pub make_loop : Bool → Here → Clauses → Stmt → Stmt
 make_loop marked here c body = Loop (kind_if (marked && not here.is_marked) here.privates c body) c body
 
@@ -276,6 +285,10 @@ abbrev mutual
     test' ← check_expr test symbols known.scopes
     (s', after) ← check_stmt s symbols (inside marked here) known
     Ok (make_loop marked here (while_clauses test') s', after)
+  check_stmt (tree.DoWhile s test) symbols here known = do
+    (s', after) ← check_stmt s symbols (within_loop here) known
+    test' ← check_expr test symbols after.scopes
+    Ok (DoWhile s' test', after)
   check_stmt (tree.For marked h s) symbols here known = do
     (init, within) ← check_init h.init symbols (in_scope known)
     test ← check_test h.test symbols within.scopes

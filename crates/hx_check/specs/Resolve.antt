@@ -11,7 +11,7 @@ use Rattle.hx_tree.specs.Accepted.{init_locals, stmt_locals, part_locals, privat
 use Rattle.hx_check.specs.declared.resolved.Words.{Words}
 use Rattle.hx_check.specs.declared.symbol.Symbol.{Symbol}
 use Rattle.hx_check.specs.declared.symbol.Symbol.TheVariants as symbol
-use Rattle.hx_check.specs.Resolved.{Expr, Number, Private, Word, Element, Call, Unary, Binary, Exprs, no_exprs, expr_and, Place, ToPrivate, ToWord, ToElement, Assignment, Set, Update, Simple, Declare, Assign, Clauses, LoopKind, Plain, IsRegion, Stmt, Block, Do, CallStatement, Print, Emit, If, IfElse, Loop, Break, Continue, Return, Stmts, no_stmts, stmt_and, Function, Program}
+use Rattle.hx_check.specs.Resolved.{Expr, Number, Private, Word, Element, Call, Unary, Binary, Conditional, Exprs, no_exprs, expr_and, Place, ToPrivate, ToWord, ToElement, Assignment, Set, Update, Simple, Declare, Assign, Clauses, LoopKind, Plain, IsRegion, Stmt, Block, Do, CallStatement, Print, Emit, If, IfElse, Loop, DoWhile, Break, Continue, Return, Stmts, no_stmts, stmt_and, Function, Program}
 use Rattle.hx_check.specs.Counts.{step_counts}
 use Rattle.hx_check.specs.Carried.{region_of}
 use Rattle.hx_check.specs.Symbols.{Scopes, private_word, with_word, with_words, words_after_init, numbered, symbols_of}
@@ -66,6 +66,8 @@ abbrev mutual
   resolve_expr (tree.Paren e) symbols scopes = resolve_expr e symbols scopes
   resolve_expr (tree.Unary op e) symbols scopes = Unary op (resolve_expr e symbols scopes)
   resolve_expr (tree.Binary op pos l r) symbols scopes = Binary op pos (resolve_expr l symbols scopes) (resolve_expr r symbols scopes)
+  resolve_expr (tree.Conditional test chosen other) symbols scopes =
+      Conditional (resolve_expr test symbols scopes) (resolve_expr chosen symbols scopes) (resolve_expr other symbols scopes)
 
   pub resolve_exprs : tree.Exprs → Map Symbol → Scopes → Exprs
   resolve_exprs tree.no_exprs symbols scopes = no_exprs
@@ -161,6 +163,7 @@ abbrev mutual
       IfElse (resolve_expr test around.symbols scopes) (resolve_stmt s around scopes k) (resolve_stmt other around scopes (k + stmt_locals s))
   resolve_stmt (tree.While marked test s) around scopes k =
       loop_in marked around (while_clauses (resolve_expr test around.symbols scopes)) (resolve_stmt s (inside marked around) scopes k)
+  resolve_stmt (tree.DoWhile s test) around scopes k = DoWhile (resolve_stmt s around scopes k) (resolve_expr test around.symbols scopes)
   resolve_stmt (tree.For marked h s) around scopes k =
       loop_in marked around (resolve_clauses h around.symbols ([] ∷ scopes) k)
       (resolve_stmt s (inside marked around) (words_after_init h.init ([] ∷ scopes) k) (k + init_locals h.init))

@@ -20,6 +20,7 @@ mutual
     Call : (function : ℕ) → Pos → Exprs → Expr
     Unary : UnaryOp → Expr → Expr
     Binary : BinaryOp → Pos → Expr → Expr → Expr
+    Conditional : (test : Expr) → (chosen : Expr) → (other : Expr) → Expr
 
   -- the arguments of a call
   pub data Exprs : Type 0 where
@@ -74,6 +75,7 @@ mutual
     If : Expr → Stmt → Stmt
     IfElse : Expr → Stmt → Stmt → Stmt
     Loop : LoopKind → Clauses → Stmt → Stmt
+    DoWhile : Stmt → Expr → Stmt
     Break : Stmt
     Continue : Stmt
     Return : Expr → Stmt

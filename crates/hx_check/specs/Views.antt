@@ -38,6 +38,7 @@ abbrev mutual
   resolved_expr (expr.Call' f pos shape es) = resolved.Call f pos (resolved_exprs es)
   resolved_expr (expr.Unary' op p e) = resolved.Unary op (resolved_expr e)
   resolved_expr (expr.Binary' op pos p l q r) = resolved.Binary op pos (resolved_expr l) (resolved_expr r)
+  resolved_expr (expr.Conditional' p test q chosen r other) = resolved.Conditional (resolved_expr test) (resolved_expr chosen) (resolved_expr other)
 
   pub resolved_exprs : {m : _} → Row_of-Expr m → resolved.Exprs
   resolved_exprs end_of-Expr = resolved.no_exprs
@@ -77,6 +78,7 @@ abbrev mutual
   resolved_stmt (stmt.If' test p s) = resolved.If (resolved_expr test) (resolved_stmt s)
   resolved_stmt (stmt.IfElse' test p s q other) = resolved.IfElse (resolved_expr test) (resolved_stmt s) (resolved_stmt other)
   resolved_stmt (stmt.Loop' kind clauses p s) = resolved.Loop (resolved_kind kind) (resolved_clauses clauses) (resolved_stmt s)
+  resolved_stmt (stmt.DoWhile' p s test) = resolved.DoWhile (resolved_stmt s) (resolved_expr test)
   resolved_stmt stmt.Break = resolved.Break
   resolved_stmt stmt.Continue = resolved.Continue
   resolved_stmt (stmt.Return e) = resolved.Return (resolved_expr e)

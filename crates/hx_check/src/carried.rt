@@ -23,6 +23,9 @@ fn expr_reads(e: &Expr, k: u32) -> bool
         Expr::Call(_, _, arguments) => exprs_read(arguments, k),
         Expr::Unary(_, operand) => expr_reads(operand, k),
         Expr::Binary(_, _, left, right) => expr_reads(left, k) || expr_reads(right, k),
+        Expr::Conditional(test, chosen, other) => {
+            expr_reads(test, k) || expr_reads(chosen, k) || expr_reads(other, k)
+        }
     }
 }
 
@@ -126,6 +129,7 @@ fn stmt_reads(s: &Stmt, k: u32) -> bool
             expr_reads(test, k) || stmt_reads(body, k) || stmt_reads(other, k)
         }
         Stmt::Loop(_, clauses, body) => clauses_read(clauses, k) || stmt_reads(body, k),
+        Stmt::DoWhile(body, test) => stmt_reads(body, k) || expr_reads(test, k),
         Stmt::Break => false,
         Stmt::Continue => false,
         Stmt::Return(e) => expr_reads(e, k),
@@ -200,7 +204,13 @@ fn stmt_assigns(s: &Stmt, k: u32) -> bool
         Stmt::If(_, body) => stmt_assigns(body, k),
         Stmt::IfElse(_, body, other) => stmt_assigns(body, k) || stmt_assigns(other, k),
         Stmt::Loop(_, clauses, body) => clauses_assign(clauses, k) || stmt_assigns(body, k),
-        _ => false,
+        Stmt::DoWhile(body, _) => stmt_assigns(body, k),
+        Stmt::CallStatement(_, _, _) => false,
+        Stmt::Print(_, _) => false,
+        Stmt::Emit(_, _) => false,
+        Stmt::Break => false,
+        Stmt::Continue => false,
+        Stmt::Return(_) => false,
     }
 }
 
@@ -248,7 +258,13 @@ fn stmt_declares(s: &Stmt, k: u32) -> bool
         Stmt::If(_, body) => stmt_declares(body, k),
         Stmt::IfElse(_, body, other) => stmt_declares(body, k) || stmt_declares(other, k),
         Stmt::Loop(_, clauses, body) => init_declares(&clauses.init, k) || stmt_declares(body, k),
-        _ => false,
+        Stmt::DoWhile(body, _) => stmt_declares(body, k),
+        Stmt::CallStatement(_, _, _) => false,
+        Stmt::Print(_, _) => false,
+        Stmt::Emit(_, _) => false,
+        Stmt::Break => false,
+        Stmt::Continue => false,
+        Stmt::Return(_) => false,
     }
 }
 

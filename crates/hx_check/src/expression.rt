@@ -59,6 +59,12 @@ pub(crate) fn expression(
             let right = boxed_expression(alloc, right, symbols, scopes)?;
             Ok(Expr::Binary(*op, *pos, left, right))
         }
+        tree::Expr::Conditional(test, chosen, other) => {
+            let test = boxed_expression(alloc, test, symbols, scopes)?;
+            let chosen = boxed_expression(alloc, chosen, symbols, scopes)?;
+            let other = boxed_expression(alloc, other, symbols, scopes)?;
+            Ok(Expr::Conditional(test, chosen, other))
+        }
     }
 }
 

@@ -26,6 +26,9 @@ fn expr_fits(e: &Expr, room: u32) -> bool
         Expr::Paren(inner) => expr_fits(inner, below),
         Expr::Unary(_, operand) => expr_fits(operand, below),
         Expr::Binary(_, _, left, right) => expr_fits(left, below) && expr_fits(right, below),
+        Expr::Conditional(test, chosen, other) => {
+            expr_fits(test, below) && expr_fits(chosen, below) && expr_fits(other, below)
+        }
     }
 }
 
@@ -136,6 +139,7 @@ fn stmt_fits(s: &Stmt, room: u32) -> bool
             expr_fits(test, below) && stmt_fits(body, below) && stmt_fits(other, below)
         }
         Stmt::While(_, test, body) => expr_fits(test, below) && stmt_fits(body, below),
+        Stmt::DoWhile(body, test) => stmt_fits(body, below) && expr_fits(test, below),
         Stmt::For(_, head, body) => clauses_fit(head, below) && stmt_fits(body, below),
         Stmt::Break(_) => true,
         Stmt::Continue(_) => true,

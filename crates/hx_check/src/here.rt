@@ -2,7 +2,7 @@
 
 ghost use Rattle.std.specs.Prelude.{◌≡◌};
 ghost use Rattle.hx_check.specs.declared.error.CheckError.TheVariants.{OutsideLoop};
-ghost use Rattle.hx_check.specs.Reading.{inside, unless};
+ghost use Rattle.hx_check.specs.Reading.{inside, unless, within_loop};
 
 use crate::error::CheckError;
 use hx_tree::token::Pos;
@@ -28,6 +28,16 @@ impl Here {
             privates: self.privates,
             in_loop: true,
             is_marked: self.is_marked || marked,
+        }
+    }
+
+    /// Where the body of a `do` stands, which is never marked.
+    pub(crate) fn within_loop(self) -> Here
+        ensures { result ≡ within_loop self }
+    {
+        Here {
+            in_loop: true,
+            ..self
         }
     }
 

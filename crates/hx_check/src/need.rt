@@ -33,6 +33,7 @@ fn need(e: &Expr) -> usize
         }
         Expr::Binary(BinaryOp::And, _, left, right) => need(left).max(need(right)).max(1),
         Expr::Binary(BinaryOp::Or, _, left, right) => need(left).max(need(right)).max(1),
+        Expr::Conditional(test, chosen, other) => need(test).max(need(chosen).max(need(other))),
     }
 }
 
@@ -142,6 +143,7 @@ fn stmt_need(s: &Stmt) -> usize
         Stmt::If(test, body) => need(test).max(stmt_need(body)),
         Stmt::IfElse(test, body, other) => need(test).max(stmt_need(body).max(stmt_need(other))),
         Stmt::While(_, test, body) => need(test).max(stmt_need(body)),
+        Stmt::DoWhile(body, test) => stmt_need(body).max(need(test)),
         Stmt::For(_, head, body) => clauses_need(head).max(stmt_need(body)),
         Stmt::Break(_) => 0,
         Stmt::Continue(_) => 0,

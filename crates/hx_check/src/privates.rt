@@ -34,6 +34,7 @@ fn stmt_locals(s: &Stmt) -> usize
         Stmt::If(_, body) => stmt_locals(body),
         Stmt::IfElse(_, body, other) => (stmt_locals(body) + stmt_locals(other)).min(MANY),
         Stmt::While(_, _, body) => stmt_locals(body),
+        Stmt::DoWhile(body, _) => stmt_locals(body),
         Stmt::For(_, head, body) => (init_locals(&head.init) + stmt_locals(body)).min(MANY),
         _ => 0,
     }

@@ -16,6 +16,7 @@ pub struct Words {
 /// `Private` is a private word of the function, counted from 0: its parameters, then its locals in
 /// source order. `Word` is a store word, counted from 0 over all globals. `Element` and `Call` have
 /// the place of the name; a call has the function's number, counted from 0 in source order.
+/// `Conditional` has its test, and what it is where that isn't 0 and where it is.
 #[derive(Drop)]
 pub enum Expr {
     Number(u32),
@@ -25,6 +26,7 @@ pub enum Expr {
     Call(u32, Pos, Vec<Expr>),
     Unary(UnaryOp, Box<Expr>),
     Binary(BinaryOp, Pos, Box<Expr>, Box<Expr>),
+    Conditional(Box<Expr>, Box<Expr>, Box<Expr>),
 }
 
 /// What is assigned to.
@@ -98,6 +100,7 @@ pub enum Stmt {
     If(Expr, Box<Stmt>),
     IfElse(Expr, Box<Stmt>, Box<Stmt>),
     Loop(LoopKind, Clauses, Box<Stmt>),
+    DoWhile(Box<Stmt>, Expr),
     Break,
     Continue,
     Return(Expr),

@@ -243,6 +243,9 @@ fn statement(
         tree::Stmt::While(marked, condition, body) => {
             while_statement(alloc, *marked, body, condition, symbols, here, locals)
         }
+        tree::Stmt::DoWhile(body, condition) => {
+            do_statement(alloc, body, condition, symbols, here, locals)
+        }
         tree::Stmt::For(marked, head, body) => {
             for_statement(alloc, *marked, head, body, symbols, here, locals)
         }
@@ -326,6 +329,23 @@ fn while_statement(
     let condition = expression(alloc, condition, symbols, &locals.scopes)?;
     let body = boxed_statement(alloc, body, symbols, here.inside(marked), locals)?;
     make_loop(alloc, marked, here, while_clauses(alloc, condition), body)
+}
+
+/// A `do`, whose body stands before its test.
+#[cycle(statements)]
+fn do_statement(
+    alloc: Global,
+    body: &tree::Stmt,
+    condition: &tree::Expr,
+    symbols: &Symbols,
+    here: Here,
+    locals: &mut Locals,
+) -> Result<Stmt, CheckError>
+    ensures { IsReadingNow (check_stmt (tree.DoWhile (stmt_of body.now) (expr_of condition.now)) (symbols_in symbols.now) here (known_of locals.old)) resolved_stmt (known_of locals.new) result }
+{
+    let body = boxed_statement(alloc, body, symbols, here.within_loop(), locals)?;
+    let condition = expression(alloc, condition, symbols, &locals.scopes)?;
+    Ok(Stmt::DoWhile(body, condition))
 }
 
 /// A `for`, whose first clause declares in a scope of its own.

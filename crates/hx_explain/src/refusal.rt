@@ -125,13 +125,19 @@ fn of_uses(number: u32) -> Option<Explanation>
     }
 }
 
-// Settings and input: 60, 61 and 65; and what fails as it is read or written: 63 and 64.
+// Schedules, settings and input: 40, 60, 61 and 65; and what fails as it is read or written: 63 and 64.
 fn of_runs(number: u32) -> Option<Explanation>
     ensures { is_some result ≡ is_of_runs number }
 {
-    if number == 60 {
+    if number == 40 {
         explained(
-            "The number of workers is out of range.",
+            "A byte of the schedule is no digit, or the digit of no worker: with N workers the digits go from 0 to N - 1, where a to f stand for 10 to 15.",
+            "hydra replay FILE 012 --workers 2",
+            "hydra replay FILE 011 --workers 2",
+        )
+    } else if number == 60 {
+        explained(
+            "The settings are out of range: 1 to 16 workers, and 1 to 4096 words for the marks and for the buffer each.",
             "hydra run FILE --workers 0",
             "hydra run FILE --workers 2",
         )
@@ -164,11 +170,11 @@ fn of_runs(number: u32) -> Option<Explanation>
     }
 }
 
-// Want of memory, by the stage that asked for it: 6, 12, 27, 30 and 62.
+// Want of memory, by the stage that asked for it: 6, 12, 27, 30, 41, 50 and 62.
 fn of_memory(number: u32) -> Option<Explanation>
     ensures { is_some result ≡ is_memory number }
 {
-    if number == 6 || number == 12 || number == 27 || number == 30 || number == 62 {
+    if matches!(number, 6 | 12 | 27 | 30 | 41 | 50 | 62) {
         explained(
             "Memory was refused, and nothing is said of the source. It is told as 'hydra: memory'.",
             "any source, where there is no memory",
@@ -179,7 +185,7 @@ fn of_memory(number: u32) -> Option<Explanation>
     }
 }
 
-/// What a refusal's number means: there are texts for 1 to 6, 10 to 12, 20 to 27, 30 and 60 to 65, and for no other number.
+/// What a refusal's number means: there are texts for 1 to 6, 10 to 12, 20 to 27, 30, 40, 41, 50 and 60 to 65, and for no other number.
 pub fn refusal_texts(number: u32) -> Option<Explanation>
     ensures { is_some result ≡ is_refusal number }
 {

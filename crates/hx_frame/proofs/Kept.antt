@@ -1,5 +1,5 @@
 -- What calls on a frame keep.
-use Rattle.std.proofs.Common.{◌≡◌, ℕ, zero, suc, ℤ, true, false, Option, Some, None, refl, sym, ap, ◌∙◌, subst}
+use Rattle.std.proofs.Common.{◌≡◌, ℕ, zero, suc, ℤ, true, false, [], Option, Some, None, refl, sym, ap, ◌∙◌, subst}
 use Rattle.std.specs.Prelude.{if◌then◌else◌, Result, Ok, Err, OnOk}
 use Rattle.std.specs.Result.{is_ok}
 use Rattle.std.proofs.lemmas.Bool.{false≢true}
@@ -9,10 +9,10 @@ use Rattle.hx_code.specs.declared.word.Ask.TheVariants.{Goes, Loads, Stores, Pri
 use Rattle.hx_code.specs.declared.word.Next.{Next}
 use Rattle.hx_code.specs.Code.{CodeView}
 use Rattle.hx_code.specs.Local.{LocalView, loaded as on_top}
-use Rattle.hx_code.specs.Fits.{LocalWell, goes_on}
+use Rattle.hx_code.specs.Fits.{FitsLocal, LocalWell, goes_on}
 use Rattle.hx_speculation.specs.Iteration.{Ask as Asked}
 use Rattle.hx_speculation.specs.Frame.{Frame, IsTrue, words, word, reads, stretch, is_held, goes_to}
-use Rattle.hx_speculation.proofs.Frames.{stretch_true, loads_true, stores_true}
+use Rattle.hx_speculation.proofs.Frames.{begins_true, stretch_true, loads_true, stores_true}
 use Rattle.hx_frame.specs.declared.action.Need.{Need}
 use Rattle.hx_frame.specs.declared.action.Need.TheVariants.{Nothing, ForLoad, ForStore, ForHead, Held}
 use Rattle.hx_frame.specs.declared.frame.Tag.{Tag}
@@ -28,6 +28,14 @@ use Rattle.hx_frame.proofs.Stretches.{asks_as}
 pub on_ok : {A B : Type 0} (r : Result A B) (P : Type 0) → OnOk r P → is_ok r ≡ true → P
 on_ok (Ok a) P h e = h
 on_ok (Err b) P h e = absurd (false≢true e)
+
+-- ---- new
+
+-- a frame that has gone nowhere keeps it
+pub begun_keeps : (code : CodeView) (tag : Tag) (start here : LocalView) (marks writes : Table) → FitsLocal code start → here ≡ start → marks ≡ [] → writes ≡ [] → Keeps code tag start here marks writes Nothing
+begun_keeps code tag start here marks writes fits e m w =
+    let begun : Keeps code tag start start [] [] Nothing = record { start_fits = fits; here_fits = fits; is_true = begins_true (ask_in code) tag.worker tag.iteration tag.attempt start; action = tt } in
+    subst (λ l. Keeps code tag start l marks writes Nothing) (sym e) (subst (λ t. Keeps code tag start start t writes Nothing) (sym m) (subst (λ t. Keeps code tag start start [] t Nothing) (sym w) begun))
 
 -- ---- run
 

@@ -51,7 +51,7 @@ values_case (c ∷ cs) n from to (a, h, (b, i, (d, j, k))) end =
     answer_there mark.Assign from (values_turn from) refl h
     (answer_behind mark.OpenBrace a _ refl i
     (at_height (answer_then (listed constant_at b) _
-    (listed_answers IsConstant n flat constant_at (c ∷ cs) (constants_read (c ∷ cs) n) b d j (ended mark.CloseBrace d to (refl, refl, refl, refl) k) (behind_other mark.Comma mark.CloseBrace d to refl k))
+    (listed_answers IsConstant n flat constant_at (c ∷ cs) (constants_read (c ∷ cs) n) b d j (ended mark.CloseBrace d to (refl, refl, refl, refl, refl) k) (behind_other mark.Comma mark.CloseBrace d to refl k))
     (answer_behind mark.CloseBrace d _ refl k answer)) 0 (let e = greatest_flat (c ∷ cs) in omega arith)))
 
 constants_length : (cs : List Constant) (from to : List Token) → EachBehindComma IsConstant cs from to → length to ≤ length from
@@ -119,7 +119,7 @@ globals_case : (g : GlobalDecl) (gs : List GlobalDecl) (n room : ℕ) (from a b 
     → Answers n 0 (int_item_at room from) (Globals (g ∷ gs)) to
 unfolding int_item_at globals_at
 globals_case g gs n room from a b c to name shape more end =
-    let last = ended mark.Semicolon c to (refl, refl, refl, refl) end in
+    let last = ended mark.Semicolon c to (refl, refl, refl, refl, refl) end in
     let follows = comma_first IsGlobal gs b c more last in
     answer_name g.name from _ name
     (answer_absent mark.OpenParen a (int_turn room g.name a) (shape_no_call g.shape a b shape follows)
@@ -172,7 +172,7 @@ params_case (NamedParams (x ∷ xs)) n from mid to (a, (b, int, name), more) end
     (behind_other mark.CloseParen mark.Int from b refl int)
     (answer_absent mark.Void from (params_turn from None) (behind_other mark.Void mark.Int from b refl int)
     (at_height (answer_then (listed param_at from) _
-    (listed_answers IsParam n flat param_at (x ∷ xs) (params_read (x ∷ xs) n) from mid (a, (b, int, name), more) (ended mark.CloseParen mid to (refl, refl, refl, refl) end)
+    (listed_answers IsParam n flat param_at (x ∷ xs) (params_read (x ∷ xs) n) from mid (a, (b, int, name), more) (ended mark.CloseParen mid to (refl, refl, refl, refl, refl) end)
     (behind_other mark.Comma mark.CloseParen mid to refl end))
     (answer_behind mark.CloseParen mid _ refl end answer)) 0 (let e = greatest_flat (x ∷ xs) in omega arith)))
 

@@ -109,7 +109,7 @@ BeforeEnd P x from to = P x from to × Ended to
 
 pub comma_first : {X : Type 0} (P : X → Phrase) (xs : List X) (from to : List Token) → EachBehindComma P xs from to → Ended to → Ended from
 comma_first P [] from to is end = rw is end
-comma_first P (x ∷ xs) from to (a, h, (b, i, hs)) end = ended mark.Comma from a (refl, refl, refl, refl) h
+comma_first P (x ∷ xs) from to (a, h, (b, i, hs)) end = ended mark.Comma from a (refl, refl, refl, refl, refl) h
 
 run_comma : {X : Type 0} (P : X → Phrase) (xs : List X) (from to : List Token) → EachBehindComma P xs from to → Ended to → NoComma to
     → Run at_comma (BeforeEnd P) xs from to

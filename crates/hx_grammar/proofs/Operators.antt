@@ -76,6 +76,26 @@ layer_pos (Strict op.BitOr) = omega arith
 layer_pos And = omega arith
 layer_pos Or = omega arith
 
+pub layer_low : (o : BinaryOp) → layer o ≤ 10
+layer_low (Strict op.Mul) = omega arith
+layer_low (Strict op.Div) = omega arith
+layer_low (Strict op.Rem) = omega arith
+layer_low (Strict op.Add) = omega arith
+layer_low (Strict op.Sub) = omega arith
+layer_low (Strict op.ShiftLeft) = omega arith
+layer_low (Strict op.ShiftRight) = omega arith
+layer_low (Strict op.Less) = omega arith
+layer_low (Strict op.LessEqual) = omega arith
+layer_low (Strict op.Greater) = omega arith
+layer_low (Strict op.GreaterEqual) = omega arith
+layer_low (Strict op.Equal) = omega arith
+layer_low (Strict op.NotEqual) = omega arith
+layer_low (Strict op.BitAnd) = omega arith
+layer_low (Strict op.BitXor) = omega arith
+layer_low (Strict op.BitOr) = omega arith
+layer_low And = omega arith
+layer_low Or = omega arith
+
 -- ---- the operator in front
 
 within_is : (k : ℕ) (p q : Pos) (r rest : List Token) (found : Option BinaryOp) (o : BinaryOp) → within k p r found ≡ Some (o, q, rest)
@@ -128,6 +148,14 @@ operator_here k o p rest le =
     let t : nat_le (layer o) k ≡ true = le-leb (layer o) k le in
     rw (mark_of o, t) refl
 
+-- where no operator of all layers is in front, none is
+pub none_at_all : (k : ℕ) (from : List Token) → operator_at 11 from ≡ None → operator_at k from ≡ None
+none_at_all k from none = go (operator_at k from) refl
+  where
+    go : (o : Option (BinaryOp × Pos × List Token)) → operator_at k from ≡ o → operator_at k from ≡ None
+    go None e = e
+    go (Some (o, p, rest)) e = absurd (let x = operator_above 11 k from rest o p none e in let y = layer_low o in omega arith)
+
 -- ---- operators of a layer at least
 
 -- an operator in front is of layer j at least
@@ -155,3 +183,17 @@ no_operator j k from lt above = go (operator_at k from) refl
     go : (o : Option (BinaryOp × Pos × List Token)) → operator_at k from ≡ o → operator_at k from ≡ None
     go None e = e
     go (Some (o, p, rest)) e = absurd (let le = above k o p rest e in let w = operator_is k from rest o p e in omega arith)
+
+-- no operator is of layer 11
+pub no_operator_above : (k : ℕ) (from : List Token) → Above 11 from → operator_at k from ≡ None
+no_operator_above k from above = go (operator_at k from) refl
+  where
+    go : (o : Option (BinaryOp × Pos × List Token)) → operator_at k from ≡ o → operator_at k from ≡ None
+    go None e = e
+    go (Some (o, p, rest)) e = absurd (let x = above k o p rest e in let y = layer_low o in omega arith)
+
+-- a mark that is no operator
+pub above_mark : (j : ℕ) (m : Mark) (p : Pos) (rest : List Token) → binary_of m ≡ None → Above j (MarkToken m p ∷ rest)
+unfolding operator_at
+above_mark j m p rest none k o q r f =
+    let x : None ≡ Some (o, q, r) = sym (ap (λ (b : Option BinaryOp). within k p rest b) none) ∙ f in absurd cc

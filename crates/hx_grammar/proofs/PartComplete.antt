@@ -25,13 +25,13 @@ local_case x None n from to (a, h, is) end =
     answer_name x from _ h (answer_absent mark.Assign a (local_turn n x a) (rw is (end.initialiser)) (answer_at is))
 local_case x (Some e) n from to (a, h, (b, i, j)) end =
     answer_name x from _ h (answer_there mark.Assign a (local_turn n x a) refl i
-    (at_height (answer_then (expr_at n 10 b) _ (expr_answers e n b to j end) answer) (height e) (omega arith)))
+    (at_height (answer_then (expr_at n 11 b) _ (expr_answers e n b to j end) answer) (height e) (omega arith)))
 
 local_shorter : (x : Name) (i : Option Expr) (from to : List Token) → (Named x ⨾ Optional (λ e. The mark.Assign ⨾ IsExpr e) i) from to
     → length to < length from
 local_shorter x None from to (a, h, is) = let p = named_shorter x from a h in let q : length a ≡ length to = ap length is in omega arith
 local_shorter x (Some e) from to (a, h, (b, i, j)) =
-    let p = named_shorter x from a h in let q = the_shorter mark.Assign a b i in let r = expr_shorter e 10 b to j in omega arith
+    let p = named_shorter x from a h in let q = the_shorter mark.Assign a b i in let r = expr_shorter e 11 b to j in omega arith
 
 abbrev local_height : LocalDecl → ℕ
 local_height d = if_there height d.init
@@ -47,7 +47,7 @@ unfolding locals_at
 locals_answers ds zero from mid to is end = record { or_deep = inr (omega arith, refl) }
 locals_answers ds (suc n) from mid to is end =
     node
-    (listed_answers IsLocal n local_height (local_at n) ds (locals_read ds n) from mid is (ended mark.Semicolon mid to (refl, refl, refl, refl) end) (behind_other mark.Comma mark.Semicolon mid to refl end))
+    (listed_answers IsLocal n local_height (local_at n) ds (locals_read ds n) from mid is (ended mark.Semicolon mid to (refl, refl, refl, refl, refl) end) (behind_other mark.Comma mark.Semicolon mid to refl end))
     (locals_height ds) (omega arith)
 
 -- no token more than before
@@ -84,13 +84,13 @@ placed (ToElement x e) n from mid (a, h, (b, i, (c, j, k))) index call = record 
   begins = h;
   no_call = behind_other mark.OpenParen mark.OpenBracket a b refl i;
   answers = answer_there mark.OpenBracket a (place_turn n x a) refl i
-      (at_height (answer_then (expr_at n 10 b) _ (expr_answers e n b c j (ended mark.CloseBracket c mid (refl, refl, refl, refl) k)) (answer_behind mark.CloseBracket c _ refl k answer)) (height e) (omega arith));
+      (at_height (answer_then (expr_at n 11 b) _ (expr_answers e n b c j (ended mark.CloseBracket c mid (refl, refl, refl, refl, refl) k)) (answer_behind mark.CloseBracket c _ refl k answer)) (height e) (omega arith));
 }
 
 place_shorter : (p : Place) (from to : List Token) → IsPlace p from to → length to < length from
 place_shorter (ToVariable x) from to h = named_shorter x from to h
 place_shorter (ToElement x e) from to (a, h, (b, i, (c, j, k))) =
-    let p = named_shorter x from a h in let q = the_shorter mark.OpenBracket a b i in let r = expr_shorter e 10 b c j in
+    let p = named_shorter x from a h in let q = the_shorter mark.OpenBracket a b i in let r = expr_shorter e 11 b c j in
     let s = the_shorter mark.CloseBracket c to k in omega arith
 
 -- the mark of an assignment with an operator
@@ -127,20 +127,20 @@ update_is n p mark.Decrement pos from o e = absurd cc
 update_is n p m pos from o e = turn_is n p pos from (updating_of m) o e
 
 updated_case : (n : ℕ) (p : Place) (o : Operator) (pos : Pos) (e : Expr) (mid a to : List Token) → UpdateMark o pos mid a
-    → Answers n (height e) (expr_at n 10 a) e to
+    → Answers n (height e) (expr_at n 11 a) e to
     → Answers n (height e) (updated_at n p mid) (Update p o pos e) to
 unfolding updated_at
 updated_case n p o pos e mid a to m h =
     let turn : Answers n (height e) (update_turn n p pos a (Some o)) (Update p o pos e) to = at_height
-    (answer_then (expr_at n 10 a) _ h answer) (height e) (omega arith) in
+    (answer_then (expr_at n 11 a) _ h answer) (height e) (omega arith) in
     rw (m.stands, update_is n p m.sign pos a o m.is_of) turn
 
-set_case : (n : ℕ) (p : Place) (e : Expr) (mid a to : List Token) → The mark.Assign mid a → Answers n (height e) (expr_at n 10 a) e to
+set_case : (n : ℕ) (p : Place) (e : Expr) (mid a to : List Token) → The mark.Assign mid a → Answers n (height e) (expr_at n 11 a) e to
     → Answers n (height e) (updated_at n p mid) (Set p e) to
 unfolding updated_at update_at
 set_case n p e mid a to m h =
     let turn : Answers n (height e) (updated_at n p (MarkToken mark.Assign m.0 ∷ a)) (Set p e) to = at_height
-    (answer_then (expr_at n 10 a) _ h answer) (height e) (omega arith) in
+    (answer_then (expr_at n 11 a) _ h answer) (height e) (omega arith) in
     rw (m.1) turn
 
 increment_case : (n : ℕ) (p : Place) (mid to : List Token) → The mark.Increment mid to → Answers n 0 (updated_at n p mid) (Increment p) to
@@ -221,9 +221,9 @@ updating_shorter o pos from to h = let m = update_mark o pos from to h in the_sh
 
 pub assignment_shorter : (a : Assignment) (from to : List Token) → IsAssignment a from to → length to < length from
 assignment_shorter (Set p e) from to (a, h, (b, i, j)) =
-    let q = place_shorter p from a h in let r = the_shorter mark.Assign a b i in let s = expr_shorter e 10 b to j in omega arith
+    let q = place_shorter p from a h in let r = the_shorter mark.Assign a b i in let s = expr_shorter e 11 b to j in omega arith
 assignment_shorter (Update p o pos e) from to (a, h, (b, i, j)) =
-    let q = place_shorter p from a h in let r = updating_shorter o pos a b i in let s = expr_shorter e 10 b to j in omega arith
+    let q = place_shorter p from a h in let r = updating_shorter o pos a b i in let s = expr_shorter e 11 b to j in omega arith
 assignment_shorter (Increment p) from to (a, h, i) =
     let q = place_shorter p from a h in let r = the_shorter mark.Increment a to i in omega arith
 assignment_shorter (Decrement p) from to (a, h, i) =
@@ -243,7 +243,7 @@ init_answers (InitLocals ds) n from mid to (a, h, is) end =
 init_answers (InitAssign u) n from mid to is end =
     answer_absent mark.Semicolon from (λ o. init_turn n from o (behind mark.Int from)) (assignment_first mark.Semicolon u from mid is)
     (answer_absent mark.Int from (init_turn n from None) (assignment_first mark.Int u from mid is)
-    (at_height (answer_then (assignment_at n from) _ (assignment_answers u n from mid is (ended mark.Semicolon mid to (refl, refl, refl, refl) end)) (answer_behind mark.Semicolon mid _ refl end answer)) (assignment_height u) (omega arith)))
+    (at_height (answer_then (assignment_at n from) _ (assignment_answers u n from mid is (ended mark.Semicolon mid to (refl, refl, refl, refl, refl) end)) (answer_behind mark.Semicolon mid _ refl end answer)) (assignment_height u) (omega arith)))
 
 pub for_clauses_answers : (h : ForClauses) (n : ℕ) (from to : List Token) → AreForClauses h from to
     → Answers n (head_height h) (for_clauses_at n from) h to
@@ -251,10 +251,10 @@ unfolding for_clauses_at
 for_clauses_answers h n from to (a, open_paren, (b, begins, (c, first, (d, tests, (e, second, (f, steps, close)))))) =
     answer_behind mark.OpenParen from _ refl open_paren
     (at_height (answer_then (init_at n a) _ (init_answers h.init n a b c begins first)
-    (answer_then (optional_at mark.Semicolon (expr_at n 10) c) _
-    (optional_answers IsExpr mark.Semicolon n height (expr_at n 10) refl (λ x s t i. expr_first mark.Semicolon (refl, refl, refl, refl) x 10 s t i)
-    (λ x s t r i end. expr_answers x n s t i (ended mark.Semicolon t r (refl, refl, refl, refl) end)) h.test c d e tests second)
+    (answer_then (optional_at mark.Semicolon (expr_at n 11) c) _
+    (optional_answers IsExpr mark.Semicolon n height (expr_at n 11) refl (λ x s t i. expr_first mark.Semicolon (refl, refl, refl, refl) x 11 s t i)
+    (λ x s t r i end. expr_answers x n s t i (ended mark.Semicolon t r (refl, refl, refl, refl, refl) end)) h.test c d e tests second)
     (answer_then (optional_at mark.CloseParen (assignment_at n) e) _
     (optional_answers IsAssignment mark.CloseParen n assignment_height (assignment_at n) refl (λ x s t i. assignment_first mark.CloseParen x s t i)
-    (λ x s t r i end. assignment_answers x n s t i (ended mark.CloseParen t r (refl, refl, refl, refl) end)) h.step e f to steps close)
+    (λ x s t r i end. assignment_answers x n s t i (ended mark.CloseParen t r (refl, refl, refl, refl, refl) end)) h.step e f to steps close)
     answer))) (head_height h) (omega arith))

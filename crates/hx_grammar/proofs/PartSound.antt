@@ -104,6 +104,6 @@ pub for_clauses_yields : (room : ℕ) (from : List Token) → Yields (for_clause
 unfolding for_clauses_at
 for_clauses_yields room from =
     yields_behind _ _ _ (λ a o. yields_then _ _ (init_yields room a) (λ i b h.
-    yields_then _ _ (optional_yields {P = IsExpr} mark.Semicolon (expr_at room 10) (whole_expr_yields room) b) (λ e c t.
+    yields_then _ _ (optional_yields {P = IsExpr} mark.Semicolon (expr_at room 11) (whole_expr_yields room) b) (λ e c t.
     yields_then _ _ (optional_yields {P = IsAssignment} mark.CloseParen (assignment_at room) (assignment_yields room) c) (λ s to u.
     yields (a, o, (h.0, h.1, (b, h.2, (t.0, t.1, (c, t.2, u)))))))))

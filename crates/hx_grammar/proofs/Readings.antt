@@ -207,11 +207,13 @@ pub record Ended (to : List Token) : Type 0 where
   pub index : behind mark.OpenBracket to ≡ None
   pub arguments : behind mark.OpenParen to ≡ None
   pub initialiser : behind mark.Assign to ≡ None
+  pub question : behind mark.Question to ≡ None
 
 -- a mark that does so
 abbrev pub Ends : Mark → Type 0
 Ends m =
-    (binary_of m ≡ None) × (same_mark m mark.OpenBracket ≡ false) × (same_mark m mark.OpenParen ≡ false) × (same_mark m mark.Assign ≡ false)
+    (binary_of m ≡ None) × (same_mark m mark.OpenBracket ≡ false) × (same_mark m mark.OpenParen ≡ false) × (same_mark m mark.Assign ≡ false) ×
+    (same_mark m mark.Question ≡ false)
 
 pub ended : (m : Mark) (from to : List Token) → Ends m → The m from to → Ended from
 unfolding operator_at
@@ -220,4 +222,5 @@ ended m from to ends h = record {
   index = behind_other mark.OpenBracket m from to ends.1 h;
   arguments = behind_other mark.OpenParen m from to ends.2 h;
   initialiser = behind_other mark.Assign m from to ends.3 h;
+  question = behind_other mark.Question m from to ends.4 h;
 }

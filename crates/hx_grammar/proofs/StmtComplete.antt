@@ -2,11 +2,11 @@
 use Rattle.std.proofs.Common.{◌≡◌, ℕ, zero, suc, ◌<◌, max, Bool, true, false, cond, List, [], ◌∷◌, Option, None, inr, refl, ap, arith}
 use Rattle.hx_tree.specs.declared.token.Pos.{Pos}
 use Rattle.hx_tree.specs.declared.token.Mark.TheVariants as mark
-use Rattle.hx_tree.specs.Tree.{Name, Expr, Exprs, Assignment, LocalDecl, ForClauses, Stmt, Block, Empty, Assign, CallStatement, Print, Emit, If, IfElse, While, For, Break, Continue, Return, Part, Locals, Statement, Parts, no_parts, part_and, parts}
+use Rattle.hx_tree.specs.Tree.{Name, Expr, Exprs, Assignment, LocalDecl, ForClauses, Stmt, Block, Empty, Assign, CallStatement, Print, Emit, If, IfElse, While, DoWhile, For, Break, Continue, Return, Part, Locals, Statement, Parts, no_parts, part_and, parts}
 use Rattle.hx_tree.specs.Lexis.{Token, NameToken, MarkToken}
 use Rattle.hx_tree.specs.Grammar.{The, Optional, AreArguments, IsExpr, IsAssignment, AreForClauses, InParens, ends_open, IsStmt, IsPart, AreParts}
 use Rattle.hx_tree.specs.Height.{height, greatest, locals_height, stmt_height, part_height, parts_height}
-use Rattle.hx_grammar.specs.Reading.{behind, expr_at, in_parens_at, optional_at, arguments_at, assigned_at, locals_at, for_clauses_at, part_turn, part_at, parts_at, block_at, named_stmt_turn, named_stmt_at, print_at, emit_at, else_turn, else_at, if_at, while_at, for_at, break_at, continue_at, return_at, marked_stmt_at, stmt_with, stmt_at}
+use Rattle.hx_grammar.specs.Reading.{behind, expr_at, in_parens_at, optional_at, arguments_at, assigned_at, locals_at, for_clauses_at, part_turn, part_at, parts_at, block_at, named_stmt_turn, named_stmt_at, print_at, emit_at, else_turn, else_at, if_at, while_at, do_at, for_at, break_at, continue_at, return_at, marked_stmt_at, stmt_with, stmt_at}
 use Rattle.hx_grammar.proofs.Readings.{behind_other, Answers, answer, answer_as, answer_then, answer_behind, answer_there, answer_absent, at_height, node, Ended, ended}
 use Rattle.hx_grammar.proofs.Lists.{Each, IsRead, OneAfterOther, until_answers}
 use Rattle.hx_grammar.proofs.ExprComplete.{exprs_list, expr_first, expr_answers, arguments_answers, in_parens_answers, optional_answers}
@@ -29,7 +29,7 @@ with_room s from to pos begun zero = record { or_deep = inr (pos, refl) }
 with_room s from to pos begun (suc n) = begun n
 
 semicolon : (from to : List Token) → The mark.Semicolon from to → Ended from
-semicolon from to h = ended mark.Semicolon from to (refl, refl, refl, refl) h
+semicolon from to h = ended mark.Semicolon from to (refl, refl, refl, refl, refl) h
 
 -- ---- one case each
 
@@ -96,6 +96,14 @@ while_case n true p e s a b to h i =
     node (answer_then (in_parens_at n a) _ (in_parens_answers e n a b h) (answer_then (stmt_at n b) _ i answer))
     (stmt_height (While true e s)) (omega arith)
 
+do_case : (n : ℕ) (p : Pos) (s : Stmt) (e : Expr) (a b c d to : List Token) → Answers n (stmt_height s) (stmt_at n a) s b
+    → The mark.While b c → InParens e c d → The mark.Semicolon d to
+    → Begun n (MarkToken mark.Do p ∷ a) (DoWhile s e) to
+unfolding stmt_with marked_stmt_at do_at
+do_case n p s e a b c d to h i j k =
+    node (answer_then (stmt_at n a) _ h (answer_behind mark.While b _ refl i (answer_then (in_parens_at n c) _ (in_parens_answers e n c d j)
+    (answer_behind mark.Semicolon d _ refl k answer)))) (stmt_height (DoWhile s e)) (omega arith)
+
 for_case : (n : ℕ) (marked : Bool) (p : Pos) (c : ForClauses) (s : Stmt) (a b to : List Token) → AreForClauses c a b
     → Answers n (stmt_height s) (stmt_at n b) s to
     → Begun n (MarkToken (cond marked mark.MarkedFor mark.For) p ∷ a) (For marked c s) to
@@ -119,8 +127,8 @@ return_case : (n : ℕ) (p : Pos) (e : Option Expr) (a b to : List Token) → Op
     → Begun n (MarkToken mark.Return p ∷ a) (Return p e) to
 unfolding stmt_with marked_stmt_at return_at
 return_case n p e a b to h i =
-    node (answer_then (optional_at mark.Semicolon (expr_at n 10) a) _
-    (optional_answers IsExpr mark.Semicolon n height (expr_at n 10) refl (λ x s t i. expr_first mark.Semicolon (refl, refl, refl, refl) x 10 s t i)
+    node (answer_then (optional_at mark.Semicolon (expr_at n 11) a) _
+    (optional_answers IsExpr mark.Semicolon n height (expr_at n 11) refl (λ x s t i. expr_first mark.Semicolon (refl, refl, refl, refl) x 11 s t i)
     (λ x s t r i end. expr_answers x n s t i (semicolon t r end)) e a b to h i) answer) (stmt_height (Return p e)) (omega arith)
 
 -- ---- blocks
@@ -208,6 +216,9 @@ mutual
       (λ m. rw h.1 (if_else_case m h.0 e s t a b c d to i (complete s m b c j (λ is_open. shut_is (ends_open s) shut is_open)) k (complete t m d to l end))) n
   complete (While marked e s) n from to (a, h, (b, i, j)) end =
       with_room (While marked e s) from to (omega arith) (λ m. rw h.1 (while_case m marked h.0 e s a b to i (complete s m b to j end))) n
+  complete (DoWhile s e) n from to (a, h, (b, i, (c, j, (d, k, l)))) end =
+      with_room (DoWhile s e) from to (omega arith)
+      (λ m. rw h.1 (do_case m h.0 s e a b c d to (complete s m a b i (λ is_open. behind_other mark.Else mark.While b c refl j)) j k l)) n
   complete (For marked c s) n from to (a, h, (b, i, j)) end =
       with_room (For marked c s) from to (omega arith) (λ m. rw h.1 (for_case m marked h.0 c s a b to i (complete s m b to j end))) n
   complete (Break p) n from to (a, h, i) end = with_room (Break p) from to (omega arith) (λ m. rw h (break_case m p a to i)) n

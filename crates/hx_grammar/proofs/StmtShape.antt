@@ -3,7 +3,7 @@ use Rattle.std.proofs.Common.{◌≡◌, ◌<◌, ◌≤◌, true, false, cond, 
 use Rattle.hx_tree.specs.declared.token.Pos.{Pos}
 use Rattle.hx_tree.specs.declared.token.Mark.{Mark}
 use Rattle.hx_tree.specs.declared.token.Mark.TheVariants as mark
-use Rattle.hx_tree.specs.Tree.{Expr, Init, NoInit, InitLocals, InitAssign, ForClauses, Stmt, Block, Empty, Assign, CallStatement, Print, Emit, If, IfElse, While, For, Break, Continue, Return, Part, Locals, Statement, Parts, no_parts, part_and}
+use Rattle.hx_tree.specs.Tree.{Expr, Init, NoInit, InitLocals, InitAssign, ForClauses, Stmt, Block, Empty, Assign, CallStatement, Print, Emit, If, IfElse, While, DoWhile, For, Break, Continue, Return, Part, Locals, Statement, Parts, no_parts, part_and}
 use Rattle.hx_tree.specs.Lexis.{Token}
 use Rattle.hx_tree.specs.Grammar.{At, Optional, IsExpr, IsInit, IsAssignment, AreForClauses, InParens, IsStmt, IsPart, AreParts}
 use Rattle.hx_tree.proofs.Phrases.{expr_shorter, arguments_shorter}
@@ -24,7 +24,7 @@ optional_length P shorter (Some x) from to h = let p = shorter x from to h in om
 
 in_parens_shorter : (e : Expr) (from to : List Token) → InParens e from to → length to < length from
 in_parens_shorter e from to (a, h, (b, i, j)) =
-    let p = the_shorter mark.OpenParen from a h in let q = expr_shorter e 10 a b i in let r = the_shorter mark.CloseParen b to j in
+    let p = the_shorter mark.OpenParen from a h in let q = expr_shorter e 11 a b i in let r = the_shorter mark.CloseParen b to j in
     omega arith
 
 init_length : (i : Init) (from to : List Token) → IsInit i from to → length to ≤ length from
@@ -37,7 +37,7 @@ for_clauses_shorter h from to (a, open_paren, (b, begins, (c, first, (d, tests, 
     let p = the_shorter mark.OpenParen from a open_paren in
     let q = init_length h.init a b begins in
     let r = the_shorter mark.Semicolon b c first in
-    let s = optional_length IsExpr (λ x s t i. expr_shorter x 10 s t i) h.test c d tests in
+    let s = optional_length IsExpr (λ x s t i. expr_shorter x 11 s t i) h.test c d tests in
     let t = the_shorter mark.Semicolon d e second in
     let u = optional_length IsAssignment assignment_shorter h.step e f steps in
     let v = the_shorter mark.CloseParen f to close in
@@ -70,6 +70,9 @@ mutual
   stmt_shorter (While marked e s) from to (a, h, (b, i, j)) =
       let p = the_shorter (cond marked mark.MarkedWhile mark.While) from a h in let q = in_parens_shorter e a b i in
       let r = stmt_shorter s b to j in omega arith
+  stmt_shorter (DoWhile s e) from to (a, h, (b, i, (c, j, (d, k, l)))) =
+      let p = the_shorter mark.Do from a h in let q = stmt_shorter s a b i in let r = the_shorter mark.While b c j in
+      let t = in_parens_shorter e c d k in let u = the_shorter mark.Semicolon d to l in omega arith
   stmt_shorter (For marked c s) from to (a, h, (b, i, j)) =
       let p = the_shorter (cond marked mark.MarkedFor mark.For) from a h in let q = for_clauses_shorter c a b i in
       let r = stmt_shorter s b to j in omega arith
@@ -78,7 +81,7 @@ mutual
   stmt_shorter (Continue pos) from to (a, h, i) =
       let p = at_shorter mark.Continue pos from a h in let q = the_shorter mark.Semicolon a to i in omega arith
   stmt_shorter (Return pos e) from to (a, h, (b, i, j)) =
-      let p = at_shorter mark.Return pos from a h in let q = optional_length IsExpr (λ x s t i. expr_shorter x 10 s t i) e a b i in
+      let p = at_shorter mark.Return pos from a h in let q = optional_length IsExpr (λ x s t i. expr_shorter x 11 s t i) e a b i in
       let r = the_shorter mark.Semicolon b to j in omega arith
 
   pub part_shorter : (p : Part) (from to : List Token) → IsPart p from to → length to < length from
@@ -101,6 +104,7 @@ pub record NoStmtBegins (m : Mark) : Type 0 where
   pub choice : same_mark mark.If m ≡ false
   pub loop : same_mark mark.While m ≡ false
   pub marked_loop : same_mark mark.MarkedWhile m ≡ false
+  pub body_first : same_mark mark.Do m ≡ false
   pub counted : same_mark mark.For m ≡ false
   pub marked_counted : same_mark mark.MarkedFor m ≡ false
   pub leave : same_mark mark.Break m ≡ false
@@ -118,6 +122,7 @@ stmt_first m other (If e s) from to h = behind_other m mark.If from h.0 other.ch
 stmt_first m other (IfElse e s t) from to (shut, h) = behind_other m mark.If from h.0 other.choice h.1
 stmt_first m other (While false e s) from to h = behind_other m mark.While from h.0 other.loop h.1
 stmt_first m other (While true e s) from to h = behind_other m mark.MarkedWhile from h.0 other.marked_loop h.1
+stmt_first m other (DoWhile s e) from to h = behind_other m mark.Do from h.0 other.body_first h.1
 stmt_first m other (For false c s) from to h = behind_other m mark.For from h.0 other.counted h.1
 stmt_first m other (For true c s) from to h = behind_other m mark.MarkedFor from h.0 other.marked_counted h.1
 stmt_first m other (Break pos) from to h = behind_other m mark.Break from h.0 other.leave (pos, h.1)
@@ -126,15 +131,15 @@ stmt_first m other (Return pos e) from to h = behind_other m mark.Return from h.
 
 pub no_close_begins : NoStmtBegins mark.CloseBrace
 no_close_begins =
-    record { block = refl; empty = refl; print = refl; emit = refl; choice = refl; loop = refl; marked_loop = refl; counted = refl; marked_counted = refl; leave = refl; again = refl; result = refl }
+    record { block = refl; empty = refl; print = refl; emit = refl; choice = refl; loop = refl; marked_loop = refl; body_first = refl; counted = refl; marked_counted = refl; leave = refl; again = refl; result = refl }
 
 pub no_else_begins : NoStmtBegins mark.Else
 no_else_begins =
-    record { block = refl; empty = refl; print = refl; emit = refl; choice = refl; loop = refl; marked_loop = refl; counted = refl; marked_counted = refl; leave = refl; again = refl; result = refl }
+    record { block = refl; empty = refl; print = refl; emit = refl; choice = refl; loop = refl; marked_loop = refl; body_first = refl; counted = refl; marked_counted = refl; leave = refl; again = refl; result = refl }
 
 pub no_int_begins : NoStmtBegins mark.Int
 no_int_begins =
-    record { block = refl; empty = refl; print = refl; emit = refl; choice = refl; loop = refl; marked_loop = refl; counted = refl; marked_counted = refl; leave = refl; again = refl; result = refl }
+    record { block = refl; empty = refl; print = refl; emit = refl; choice = refl; loop = refl; marked_loop = refl; body_first = refl; counted = refl; marked_counted = refl; leave = refl; again = refl; result = refl }
 
 pub part_first : (m : Mark) → NoStmtBegins m → same_mark mark.Int m ≡ false → (p : Part) (from to : List Token) → IsPart p from to
     → behind m from ≡ None

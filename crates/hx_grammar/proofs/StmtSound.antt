@@ -6,7 +6,7 @@ use Rattle.hx_tree.specs.declared.token.Mark.TheVariants as mark
 use Rattle.hx_tree.specs.Tree.{Name, Stmt, Part, parts}
 use Rattle.hx_tree.specs.Lexis.{Token, NameToken, NumberToken, MarkToken}
 use Rattle.hx_tree.specs.Grammar.{The, IsExpr, ends_open, IsStmt, IsPart, AreParts, ◌⨾◌}
-use Rattle.hx_grammar.specs.Reading.{Reader, behind, expr_at, part_turn, part_at, parts_at, block_at, named_stmt_turn, named_stmt_at, print_at, emit_at, else_turn, else_at, if_at, while_at, for_at, break_at, continue_at, return_at, marked_stmt_at, stmt_with, stmt_at}
+use Rattle.hx_grammar.specs.Reading.{Reader, behind, expr_at, part_turn, part_at, parts_at, block_at, named_stmt_turn, named_stmt_at, print_at, emit_at, else_turn, else_at, if_at, while_at, do_at, for_at, break_at, continue_at, return_at, marked_stmt_at, stmt_with, stmt_at}
 use Rattle.hx_grammar.proofs.Readings.{behind_here, Yields, yields, yields_none, yields_then, yields_behind, yields_if, yields_more}
 use Rattle.hx_grammar.proofs.Lists.{OneAfterOther, until_yields}
 use Rattle.hx_grammar.proofs.ExprSound.{whole_expr_yields, expr_yields, arguments_yields, in_parens_yields, optional_yields}
@@ -92,6 +92,13 @@ while_yields room below sound marked p from =
     yields_then _ _ (in_parens_yields room from)
     (λ v a h. yields_then _ _ (sound a) (λ s to i. yields ((from, (p, refl), (a, h, i.0)), i.1)))
 
+do_yields : (room : ℕ) (below : Reader Stmt) → StmtSound below → (p : Pos) (from : List Token)
+    → Yields (do_at room below from) (StmtRead (MarkToken mark.Do p ∷ from))
+unfolding do_at
+do_yields room below sound p from =
+    yields_then _ _ (sound from) (λ s a h. yields_behind _ _ _ (λ b w. yields_then _ _ (in_parens_yields room b) (λ v c i.
+    yields_behind _ _ _ (λ to j. yields ((from, (p, refl), (a, h.0, (b, w, (c, i, j)))), λ e. never e)))))
+
 for_yields : (room : ℕ) (below : Reader Stmt) → StmtSound below → (marked : Bool) (p : Pos) (from : List Token)
     → Yields (for_at room below marked from) (StmtRead (MarkToken (cond marked mark.MarkedFor mark.For) p ∷ from))
 unfolding for_at
@@ -110,7 +117,7 @@ continue_yields p from = yields_behind _ _ _ (λ to c. yields ((from, refl, c), 
 return_yields : (room : ℕ) (p : Pos) (from : List Token) → Yields (return_at room p from) (StmtRead (MarkToken mark.Return p ∷ from))
 unfolding return_at
 return_yields room p from =
-    yields_then _ _ (optional_yields {P = IsExpr} mark.Semicolon (expr_at room 10) (whole_expr_yields room) from)
+    yields_then _ _ (optional_yields {P = IsExpr} mark.Semicolon (expr_at room 11) (whole_expr_yields room) from)
     (λ v to h. yields ((from, refl, h), λ e. never e))
 
 marked_stmt_yields : (room : ℕ) (below : Reader Stmt) → StmtSound below → (m : Mark) (p : Pos) (from : List Token)
@@ -123,6 +130,7 @@ marked_stmt_yields room below sound mark.Emit p from = emit_yields room p from
 marked_stmt_yields room below sound mark.If p from = if_yields room below sound p from
 marked_stmt_yields room below sound mark.While p from = while_yields room below sound false p from
 marked_stmt_yields room below sound mark.MarkedWhile p from = while_yields room below sound true p from
+marked_stmt_yields room below sound mark.Do p from = do_yields room below sound p from
 marked_stmt_yields room below sound mark.For p from = for_yields room below sound false p from
 marked_stmt_yields room below sound mark.MarkedFor p from = for_yields room below sound true p from
 marked_stmt_yields room below sound mark.Break p from = break_yields p from

@@ -14,7 +14,7 @@ use Rattle.hx_tree.specs.declared.tree.BinaryOp.{BinaryOp}
 use Rattle.hx_tree.specs.declared.tree.BinaryOp.TheVariants.{Strict, And, Or}
 use Rattle.hx_tree.specs.declared.tree.Operator.{Operator}
 use Rattle.hx_tree.specs.declared.tree.Operator.TheVariants as op
-use Rattle.hx_tree.specs.Tree.{Name, Expr, Number, Variable, Element, Call, Paren, Unary, Binary, exprs, LocalDecl, Place, ToVariable, ToElement, Assignment, Set, Update, Increment, Decrement, Init, NoInit, InitLocals, InitAssign, ForClauses, Stmt, Block, Empty, Assign, CallStatement, Print, Emit, If, IfElse, While, For, Break, Continue, Return, Part, Locals, Statement, parts, Shape, Scalar, Array, GlobalDecl, Params, NoParams, VoidParams, NamedParams, Item, Globals, Function, Program}
+use Rattle.hx_tree.specs.Tree.{Name, Expr, Number, Variable, Element, Call, Paren, Unary, Binary, Conditional, exprs, LocalDecl, Place, ToVariable, ToElement, Assignment, Set, Update, Increment, Decrement, Init, NoInit, InitLocals, InitAssign, ForClauses, Stmt, Block, Empty, Assign, CallStatement, Print, Emit, If, IfElse, While, DoWhile, For, Break, Continue, Return, Part, Locals, Statement, parts, Shape, Scalar, Array, GlobalDecl, Params, NoParams, VoidParams, NamedParams, Item, Globals, Function, Program}
 use Rattle.hx_tree.specs.Lexis.{Token, NameToken, NumberToken, MarkToken}
 use Rattle.hx_tree.specs.Grammar.{layer}
 use Rattle.hx_tree.specs.Height.{height}
@@ -191,7 +191,7 @@ Below = ℕ → Reader Expr
 abbrev pub arguments_turn : Below → List Token → Option (List Token) → Reading (List Expr)
 arguments_turn below tokens (Some rest) = Ok ([], rest)
 arguments_turn below tokens None = do
-  es ← listed (below 10) tokens
+  es ← listed (below 11) tokens
   to ← expect mark.CloseParen es.1
   Ok (es.0, to)
 
@@ -201,7 +201,7 @@ arguments_at below tokens = arguments_turn below tokens (behind mark.CloseParen 
 -- behind a name: an index, arguments, or neither
 abbrev pub name_turn : Below → Name → List Token → (index arguments : Option (List Token)) → Reading Expr
 name_turn below x tokens (Some rest) arguments = do
-  e ← below 10 rest
+  e ← below 11 rest
   to ← expect mark.CloseBracket e.1
   Ok (Element x e.0, to)
 name_turn below x tokens None (Some rest) = do
@@ -219,7 +219,7 @@ unary_at below o tokens = do
 
 unfoldable pub marked_at : Below → Mark → Reader Expr
 marked_at below mark.OpenParen tokens = do
-  e ← below 10 tokens
+  e ← below 11 tokens
   to ← expect mark.CloseParen e.1
   Ok (Paren e.0, to)
 marked_at below mark.Minus tokens = unary_at below unary.Negate tokens
@@ -243,18 +243,41 @@ unfoldable pub chain : Below → (fuel room k : ℕ) → Expr → Reader Expr
 chain below zero room k left tokens = chain_turn below (λ l s. Err TooDeep) room left tokens (operator_at k tokens)
 chain below (suc fuel) room k left tokens = chain_turn below (chain below fuel room k) room left tokens (operator_at k tokens)
 
+-- operands, and the operators of layers up to k between them
+unfoldable pub chained_at : Below → (room k : ℕ) → Reader Expr
+chained_at below room k tokens = do
+  left ← operand_at below tokens
+  chain below room room k left.0 left.1
+
+-- behind a `?`: what is chosen where the test isn't 0, a `:`, and what is chosen where it is
+unfoldable pub arms_at : Below → Expr → Reader Expr
+arms_at below test tokens = do
+  a ← below 11 tokens
+  rest ← expect mark.Colon a.1
+  b ← below 11 rest
+  Ok (Conditional test a.0 b.0, b.1)
+
+-- the tokens behind a `?` that is in front, where layer 11 is read
+unfoldable pub question_at : ℕ → List Token → Option (List Token)
+question_at k tokens = if nat_le 11 k then behind mark.Question tokens else None
+
+-- a test, if a `?` is there, or else all of the expression
+abbrev pub choice_turn : Below → ℕ → Expr → List Token → Option (List Token) → Reading Expr
+choice_turn below room test tokens None = Ok (test, tokens)
+choice_turn below room test tokens (Some rest) = if nat_lt (height test) room then arms_at below test rest else Err TooDeep
+
 -- an expression of layer k, of height at most the room
 unfoldable pub expr_at : (room k : ℕ) → Reader Expr
 expr_at zero k tokens = Err TooDeep
 expr_at (suc room) k tokens = do
-  left ← operand_at (expr_at room) tokens
-  chain (expr_at room) (suc room) (suc room) k left.0 left.1
+  test ← chained_at (expr_at room) (suc room) k tokens
+  choice_turn (expr_at room) (suc room) test.0 test.1 (question_at k test.1)
 
 -- `( e )`
 unfoldable pub in_parens_at : ℕ → Reader Expr
 in_parens_at room tokens = do
   a ← expect mark.OpenParen tokens
-  e ← expr_at room 10 a
+  e ← expr_at room 11 a
   to ← expect mark.CloseParen e.1
   Ok (e.0, to)
 
@@ -274,7 +297,7 @@ optional_at m read tokens = optional_turn m read tokens (behind m tokens)
 -- behind the name of a local
 abbrev pub local_turn : ℕ → Name → List Token → Option (List Token) → Reading LocalDecl
 local_turn room x tokens (Some rest) = do
-  e ← expr_at room 10 rest
+  e ← expr_at room 11 rest
   Ok (record { name = x; init = Some e.0 }, e.1)
 local_turn room x tokens None = Ok (record { name = x; init = None }, tokens)
 
@@ -293,7 +316,7 @@ locals_at (suc room) tokens = listed (local_at room) tokens
 -- what is assigned to, behind its name
 abbrev pub place_turn : ℕ → Name → List Token → Option (List Token) → Reading Place
 place_turn room x tokens (Some rest) = do
-  e ← expr_at room 10 rest
+  e ← expr_at room 11 rest
   to ← expect mark.CloseBracket e.1
   Ok (ToElement x e.0, to)
 place_turn room x tokens None = Ok (ToVariable x, tokens)
@@ -304,13 +327,13 @@ place_at room x tokens = place_turn room x tokens (behind mark.OpenBracket token
 abbrev pub update_turn : ℕ → Place → Pos → List Token → Option Operator → Reading Assignment
 update_turn room p pos tokens None = Err Syntax
 update_turn room p pos tokens (Some o) = do
-  e ← expr_at room 10 tokens
+  e ← expr_at room 11 tokens
   Ok (Update p o pos e.0, e.1)
 
 -- what is done to a place, behind the mark that says so
 unfoldable pub update_at : ℕ → Place → Mark → Pos → Reader Assignment
 update_at room p mark.Assign pos tokens = do
-  e ← expr_at room 10 tokens
+  e ← expr_at room 11 tokens
   Ok (Set p e.0, e.1)
 update_at room p mark.Increment pos tokens = Ok (Increment p, tokens)
 update_at room p mark.Decrement pos tokens = Ok (Decrement p, tokens)
@@ -355,7 +378,7 @@ unfoldable pub for_clauses_at : ℕ → Reader ForClauses
 for_clauses_at room tokens = do
   a ← expect mark.OpenParen tokens
   i ← init_at room a
-  e ← optional_at mark.Semicolon (expr_at room 10) i.1
+  e ← optional_at mark.Semicolon (expr_at room 11) i.1
   s ← optional_at mark.CloseParen (assignment_at room) e.1
   Ok (record { init = i.0; test = e.0; step = s.0 }, s.1)
 
@@ -429,6 +452,14 @@ while_at room below marked tokens = do
   s ← below e.1
   Ok (While marked e.0 s.0, s.1)
 
+unfoldable pub do_at : ℕ → Reader Stmt → Reader Stmt
+do_at room below tokens = do
+  s ← below tokens
+  a ← expect mark.While s.1
+  e ← in_parens_at room a
+  to ← expect mark.Semicolon e.1
+  Ok (DoWhile s.0 e.0, to)
+
 unfoldable pub for_at : ℕ → Reader Stmt → (marked : Bool) → Reader Stmt
 for_at room below marked tokens = do
   h ← for_clauses_at room tokens
@@ -447,7 +478,7 @@ continue_at pos tokens = do
 
 unfoldable pub return_at : ℕ → Pos → Reader Stmt
 return_at room pos tokens = do
-  e ← optional_at mark.Semicolon (expr_at room 10) tokens
+  e ← optional_at mark.Semicolon (expr_at room 11) tokens
   Ok (Return pos e.0, e.1)
 
 -- a statement that begins with a mark, behind the mark
@@ -459,6 +490,7 @@ marked_stmt_at room below mark.Emit pos tokens = emit_at room pos tokens
 marked_stmt_at room below mark.If pos tokens = if_at room below tokens
 marked_stmt_at room below mark.While pos tokens = while_at room below false tokens
 marked_stmt_at room below mark.MarkedWhile pos tokens = while_at room below true tokens
+marked_stmt_at room below mark.Do pos tokens = do_at room below tokens
 marked_stmt_at room below mark.For pos tokens = for_at room below false tokens
 marked_stmt_at room below mark.MarkedFor pos tokens = for_at room below true tokens
 marked_stmt_at room below mark.Break pos tokens = break_at pos tokens

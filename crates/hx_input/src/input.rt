@@ -1,6 +1,6 @@
 // The numbers of an input text.
 
-ghost use Rattle.std.specs.Prelude.{◌≡◌, ◌≢◌, ◌↔◌, IsTrue, ℤ, List, IfSome, IfOk, IfErr, None};
+ghost use Rattle.std.specs.Prelude.{◌≡◌, ◌≢◌, ◌↔◌, ◌<◌, IsTrue, ℤ, List, length, IfSome, IfOk, IfErr, None};
 ghost use Rattle.std.specs.List.{prefix_len};
 ghost use Rattle.std.specs.Fmt.{signed_decimal};
 ghost use Rattle.hx_input.specs.InputText.{is_space, is_in_word, IsInputText, IsWordNumber, IsRefusedInput};
@@ -75,12 +75,13 @@ fn number_of(word: &[u8]) -> Option<i32>
 /// `0`, or digits of which the first isn't 0, or `-` and such digits, and lies from -2147483648 to 2147483647; so `-0`, `+1`
 /// and `07` are no numbers. The empty text spells the empty list. An `Ok` is the one list that the text spells. Refusals:
 ///
-/// - 65, `BadText`: the text spells no list, or is longer than 1,048,576 bytes.
+/// - 65, `BadText`: the text spells no list, or is longer than 1,048,576 bytes, in which case it is always answered.
 /// - 62, `Memory`: there was no memory for the numbers; this says nothing of the text.
 pub fn parse_input(alloc: Global, text: &[u8]) -> Result<Vec<i32>, InputError>
     ensures spelled { IfOk result (λ v. IsInputText text.now v.items) }
     ensures only { IfOk result (λ v. (zs : List ℤ) → IsInputText text.now zs → zs ≡ v.items) }
     ensures refused { IfErr result (IsRefusedInput text.now) }
+    ensures long { INPUT_LIMIT < length text.now → result ≡ Err InputError.BadText }
 {
     if text.len() > INPUT_LIMIT {
         return Err(InputError::BadText);

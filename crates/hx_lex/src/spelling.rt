@@ -6,7 +6,7 @@ ghost use Rattle.hx_lex.specs.Spelling as spec;
 
 use hx_tree::token::Mark;
 
-const KEYWORDS: [(&[u8], Mark); 13] = [
+const KEYWORDS: [(&[u8], Mark); 14] = [
     (b"int", Mark::Int),
     (b"void", Mark::Void),
     (b"if", Mark::If),
@@ -20,10 +20,11 @@ const KEYWORDS: [(&[u8], Mark); 13] = [
     (b"return", Mark::Return),
     (b"print", Mark::Print),
     (b"emit", Mark::Emit),
+    (b"do", Mark::Do),
 ];
 
 /// The punctuators, the longest first: the first that the bytes begin with is the longest.
-const PUNCTUATORS: [(&[u8], Mark); 41] = [
+const PUNCTUATORS: [(&[u8], Mark); 43] = [
     (b"<<=", Mark::ShiftLeftAssign),
     (b">>=", Mark::ShiftRightAssign),
     (b"+=", Mark::PlusAssign),
@@ -65,6 +66,8 @@ const PUNCTUATORS: [(&[u8], Mark); 41] = [
     (b"!", Mark::Exclamation),
     (b"<", Mark::Less),
     (b">", Mark::Greater),
+    (b"?", Mark::Question),
+    (b":", Mark::Colon),
 ];
 
 /// The keyword that a word is, where it is one.

@@ -10,6 +10,7 @@ ghost use Rattle.hx_lowering.specs.Size as size;
 
 use crate::draft::{Drafted, Version, array_of};
 use crate::size::expr_size;
+use crate::target::{behind, counted};
 use hx_check::resolved::Expr;
 use hx_code::word::Word;
 use hx_tree::tree::BinaryOp;
@@ -70,10 +71,16 @@ pub(crate) fn put_expr(
             draft.put(version, above, Word::Jump(one_at + 1))?;
             draft.put(version, height, Word::Const(1))
         }
+        Expr::Conditional(test, chosen, other) => {
+            let (other_at, exit) = places_of_other(draft.place(), test, chosen, other)?;
+            put_side(draft, test, version, height, Word::JumpFalse(other_at))?;
+            put_side(draft, chosen, version, height, Word::Jump(exit))?;
+            put_expr(draft, other, version, height)
+        }
     }
 }
 
-// A side of `&&` or `||`, with the jump where it decides.
+// A side of `&&` or `||` with the jump where it decides; a test or a chosen part with its jump.
 #[cycle(expressions)]
 fn put_side(
     draft: &mut Drafted,
@@ -108,6 +115,21 @@ fn behind_sides(place: u32, left: &Expr, right: &Expr) -> Result<u32, AllocError
     } else {
         Err(AllocError)
     }
+}
+
+// Where the last part of a conditional expression that begins at a place stands, and the place behind it.
+fn places_of_other(
+    place: u32,
+    test: &Expr,
+    chosen: &Expr,
+    other: &Expr,
+) -> Result<(u32, u32), AllocError>
+    ensures { let at = place + size.expr_size (resolved_expr test.now) + 1 + size.expr_size (resolved_expr chosen.now) + 1 in IfOk result (λ places. (places.0 ≡ at) × (places.1 ≡ at + size.expr_size (resolved_expr other.now))) }
+{
+    let behind_test = behind(place, counted(expr_size(test))?, 1)?;
+    let other_at = behind(behind_test, counted(expr_size(chosen))?, 1)?;
+    let exit = behind(other_at, counted(expr_size(other))?, 0)?;
+    Ok((other_at, exit))
 }
 
 // The word of a number: a constant of an accepted program fits 32 bits with their sign.

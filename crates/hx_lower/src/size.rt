@@ -31,6 +31,10 @@ pub(crate) fn expr_size(e: &Expr) -> Option<u32>
             let more = binary_size(*op);
             sum(expr_size(left)?, expr_size(right)?, more)
         }
+        Expr::Conditional(test, chosen, other) => {
+            let first = sum(expr_size(test)?, expr_size(chosen)?, 2)?;
+            first.checked_add(expr_size(other)?)
+        }
     }
 }
 
@@ -151,6 +155,7 @@ pub(crate) fn stmt_size(s: &Stmt) -> Option<u32>
             let turn = turn_size(clauses, stmt_size(body)?)?;
             simples_size(&clauses.init)?.checked_add(loop_size(kind, turn)?)
         }
+        Stmt::DoWhile(body, test) => sum(stmt_size(body)?, expr_size(test)?, 1),
         Stmt::Break => Some(1),
         Stmt::Continue => Some(1),
         Stmt::Return(e) => expr_size(e)?.checked_add(1),

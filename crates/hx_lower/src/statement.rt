@@ -2,8 +2,8 @@
 
 ghost use Rattle.std.specs.Prelude.{◌≡◌, ◌+◌, OnOk, IfOk, map, length};
 ghost use Rattle.hx_check.specs.Resolved.{stmts};
-ghost use Rattle.hx_check.specs.Views.{resolved_clauses, resolved_kind, resolved_region, resolved_stmt};
-ghost use Rattle.hx_lowering.specs.Draft.{stmt_draft, stmts_draft, turn_draft, plain_draft, turns_draft, region_draft, loop_draft, targets, cells_from};
+ghost use Rattle.hx_check.specs.Views.{resolved_clauses, resolved_expr, resolved_kind, resolved_region, resolved_stmt};
+ghost use Rattle.hx_lowering.specs.Draft.{stmt_draft, stmts_draft, turn_draft, plain_draft, turns_draft, region_draft, loop_draft, do_draft, targets, cells_from};
 ghost use Rattle.hx_lowering.specs.Size as size;
 
 use crate::assignment::{put_simple, put_simples, put_step, put_test};
@@ -11,7 +11,7 @@ use crate::draft::{Drafted, Version, cells_of, counter_of};
 use crate::expression::{put_expr, put_exprs};
 use crate::size::{stmt_size, turn_size};
 use crate::target::{Targets, behind, behind_if, counted};
-use hx_check::resolved::{Clauses, LoopKind, Region, Stmt};
+use hx_check::resolved::{Clauses, Expr, LoopKind, Region, Stmt};
 use hx_code::table;
 use hx_code::word::Word;
 use std::alloc::{AllocError, Global};
@@ -62,6 +62,7 @@ pub(crate) fn put_stmt(
             put_simples(draft, &clauses.init, version)?;
             put_loop(alloc, draft, body, kind, clauses, version)
         }
+        Stmt::DoWhile(body, test) => put_do(alloc, draft, body, test, version),
         Stmt::Break => draft.put(version, 0, Word::Jump(to.break_to())),
         Stmt::Continue => draft.put(version, 0, Word::Jump(to.continue_to())),
         Stmt::Return(e) => {
@@ -86,6 +87,24 @@ pub(crate) fn put_stmts(
         put_stmt(alloc, draft, s, version, to)?;
     }
     Ok(())
+}
+
+// A `do`: its body, and behind it the test, which jumps back where it isn't 0.
+#[cycle(statements)]
+fn put_do(
+    alloc: Global,
+    draft: &mut Drafted,
+    body: &Stmt,
+    test: &Expr,
+    version: &Version<'_>,
+) -> Result<(), AllocError>
+    ensures { OnOk result (draft.new ≡ do_draft (resolved_expr test.now) (size.stmt_size (resolved_stmt body.now)) (λ to d. stmt_draft (resolved_stmt body.now) version.now to d) version.now draft.old) }
+{
+    let start = draft.place();
+    let to = Targets::of_do(test, counted(stmt_size(body))?, start)?;
+    put_stmt(alloc, draft, body, version, &to)?;
+    put_expr(draft, test, version, 0)?;
+    draft.put(version, 1, Word::JumpTrue(start))
 }
 
 // A loop behind what stands before it.

@@ -2,7 +2,7 @@
 
 ghost use Rattle.std.specs.Prelude.{◌≡◌, ◌+◌, ◌<◌, ◌^◌, IfErr, IfOk, OkIff};
 ghost use Rattle.hx_check.specs.Views.{resolved_clauses, resolved_expr, resolved_stmt};
-ghost use Rattle.hx_lowering.specs.Draft.{targets, no_targets};
+ghost use Rattle.hx_lowering.specs.Draft.{targets, do_targets, no_targets};
 ghost use Rattle.hx_lowering.specs.Size as size;
 
 use crate::size::{expr_size, stmt_size, test_size, turn_size};
@@ -45,6 +45,18 @@ impl Targets {
         Ok(Targets {
             break_to: behind(start, turn, 1)?,
             continue_to: behind(start, test, body)?,
+        })
+    }
+
+    /// Those of the body of a `do`, of so many words, which begins at a place.
+    pub(crate) fn of_do(test: &Expr, body: u32, start: u32) -> Result<Targets, AllocError>
+        ensures { IfOk result (λ to. to ≡ do_targets (resolved_expr test.now) body start) }
+    {
+        let words = counted(expr_size(test))?;
+        let continue_to = behind(start, body, 0)?;
+        Ok(Targets {
+            break_to: behind(continue_to, words, 1)?,
+            continue_to,
         })
     }
 

@@ -31,6 +31,7 @@ need_some (tree.Unary o e) = need_some e
 need_some (tree.Binary (Strict o) at l r) = omega (arith, need_some l)
 need_some (tree.Binary And at l r) = omega arith
 need_some (tree.Binary Or at l r) = omega arith
+need_some (tree.Conditional c a b) = omega (arith, need_some c)
 
 pub same_count : (es : tree.Exprs) (symbols : Map Symbol) (scopes : Scopes) → count es ≡ lines.count (resolve_exprs es symbols scopes)
 same_count tree.no_exprs symbols scopes = refl
@@ -94,6 +95,8 @@ module _ (c : Context) (kinds : Map Kind) (symbols : Map Symbol) (agree : (x : L
     expr_fits (tree.Binary (Strict op) at l r) here scopes h a ok le = (expr_fits l here scopes h a ok.0 (omega arith), expr_fits r here scopes (h + 1) a ok.1 (omega arith))
     expr_fits (tree.Binary And at l r) here scopes h a ok le = (expr_fits l here scopes h a ok.0 (omega arith), expr_fits r here scopes h a ok.1 (omega arith))
     expr_fits (tree.Binary Or at l r) here scopes h a ok le = (expr_fits l here scopes h a ok.0 (omega arith), expr_fits r here scopes h a ok.1 (omega arith))
+    expr_fits (tree.Conditional test chosen other) here scopes h a ok le =
+        (expr_fits test here scopes h a ok.0 (omega arith), expr_fits chosen here scopes h a ok.1 (omega arith), expr_fits other here scopes h a ok.2 (omega arith))
 
     -- arguments, where so many of them stand before
     pub exprs_fit : (es : tree.Exprs) (here : Surroundings) (scopes : Scopes) (h before at : ℕ) → at ≡ h + before → Around here.globals here.locals scopes → AcceptsExprs es here

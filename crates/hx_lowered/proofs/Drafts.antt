@@ -3,12 +3,12 @@ use Rattle.std.proofs.Common.{◌≡◌, ℕ, ◌+◌, ◌≤◌, Bool, true, fa
 use Rattle.hx_check.specs.Resolved as resolved
 use Rattle.hx_check.specs.Resolved.{Expr, Clauses, LoopKind, Stmt, Stmts}
 use Rattle.hx_code.specs.declared.word.Word.{Word}
-use Rattle.hx_code.specs.declared.word.Word.TheVariants.{Drop, Jump, JumpFalse, Call, Ret, Print, Emit, Enter, Turn, Leave}
+use Rattle.hx_code.specs.declared.word.Word.TheVariants.{Drop, Jump, JumpFalse, JumpTrue, Call, Ret, Print, Emit, Enter, Turn, Leave}
 use Rattle.hx_code.specs.Code.{RegionView, CodeView}
 use Rattle.hx_lowering.specs.declared.line.Line.{Line}
 use Rattle.hx_lowering.specs.Size.{expr_size, exprs_size, simples_size, test_size, step_size, turn_size, loop_size, stmt_size, stmts_size}
 use Rattle.hx_lowering.specs.Lines.{Version, put, count, expr_lines, simples_lines, test_lines}
-use Rattle.hx_lowering.specs.Draft.{Draft, with_lines, Targets, inside, put_word, turn_draft, targets, plain_draft, turns_draft, region_at, region_draft, loop_draft, stmt_draft, stmts_draft}
+use Rattle.hx_lowering.specs.Draft.{Draft, with_lines, Targets, inside, put_word, turn_draft, targets, do_targets, plain_draft, turns_draft, region_at, region_draft, loop_draft, stmt_draft, stmts_draft}
 use Rattle.hx_lowering.proofs.Stand.{Has, has_exprs, length-exprs}
 use Rattle.hx_lowered.proofs.WellFormed.{Context, FitsStmt, FitsStmts}
 use Rattle.hx_lowered.proofs.Behind.{Behind, behind_and, behind_put, behind_expr, behind_simple, behind_simples, behind_test, behind_step}
@@ -129,6 +129,9 @@ module _ (code : CodeView) where
         grows_and _ _ _ (simples_size c.init) (loop_size kind (turn_size c (stmt_size s))) _ refl
         (grows_lines d _ _ (behind_simples code c.init v d.lines))
         (loop_grows c (stmt_size s) kind (λ v' to' d'. stmt_draft s v' to' d') v _ (λ v' to' d'. stmt_grows s v' to' d'))
+    stmt_grows (resolved.DoWhile s test) v to d =
+        let body = do_targets test (stmt_size s) (length d.lines) in
+        grows_and _ (stmt_draft s v body d) _ (stmt_size s) (expr_size test + 1) _ (omega arith) (stmt_grows s v body d) (grows_branch test v (JumpTrue (length d.lines)) (stmt_draft s v body d))
     stmt_grows resolved.Break v to d = grows_word v 0 (Jump to.break_to) d
     stmt_grows resolved.Continue v to d = grows_word v 0 (Jump to.continue_to) d
     stmt_grows (resolved.Return e) v to d = grows_branch e v Ret d
@@ -154,6 +157,7 @@ mutual
   stmt_keeps x l (resolved.Loop resolved.Plain c s) v to d f =
       turn_keeps c _ v (λ d'. stmt_draft s v (targets c (stmt_size s) (length (simples_lines c.init v d.lines))) d') (with_lines d (simples_lines c.init v d.lines)) (λ d'. stmt_keeps x true s v _ d' f.2)
   stmt_keeps x l (resolved.Loop (resolved.IsRegion r) c s) v to d f = let e : true ≡ false = f.1.0 in absurd cc
+  stmt_keeps x l (resolved.DoWhile s test) v to d f = stmt_keeps x true s v _ d f.0
   stmt_keeps x l resolved.Break v to d f = refl
   stmt_keeps x l resolved.Continue v to d f = refl
   stmt_keeps x l (resolved.Return e) v to d f = refl

@@ -31,6 +31,7 @@ room_expr c h (resolved.Unary op e) f = room_expr c h e f
 room_expr c h (resolved.Binary (Strict op) at l r) f = room_expr c h l f.0
 room_expr c h (resolved.Binary And at l r) f = room_expr c h l f.0
 room_expr c h (resolved.Binary Or at l r) f = room_expr c h l f.0
+room_expr c h (resolved.Conditional t x y) f = room_expr c h t f.0
 
 pub room_exprs : (c : Context) (h : ℕ) (es : Exprs) → h ≤ OPERAND_LIMIT → FitsExprs c h es → h + count es ≤ OPERAND_LIMIT
 room_exprs c h resolved.no_exprs le f = omega arith
@@ -196,6 +197,33 @@ module _ (code : CodeView) (c : Context) (v : Version) (knows : Knows code c v) 
         let part = expr_part l h lines n f.0 has_a part_a.begins in
         part_and code v lines h a (h + 1) _ n n n part (part_and code v a (h + 1) b h _ n n n part_a (part_and code v b h d (h + 1) _ n n n part_b
         (part_and code v d (h + 1) e h _ n n n part_d (part_and code v e h g (h + 1) _ n n n part_e (part_and code v g (h + 1) i h _ n n n part_g part_i)))))
+    expr_part (resolved.Conditional t x y) h lines n f has end =
+        let other_at = length lines + expr_size t + 1 + expr_size x + 1 in
+        let behind = other_at + expr_size y in
+        let a = expr_lines t v h lines in
+        let b = put v (h + 1) (JumpFalse other_at) a in
+        let d = expr_lines x v h b in
+        let e = put v (h + 1) (Jump behind) d in
+        let has_e = has_expr code y v h e has in
+        let has_d = has_before code v (h + 1) _ d has_e in
+        let has_b = has_expr code x v h b has_d in
+        let has_a = has_before code v (h + 1) _ a has_b in
+        let low : h + 1 ≤ OPERAND_LIMIT = omega (arith, room_expr c h t f.0) in
+        let la = length-expr t v h lines in
+        let lb = length-put v (h + 1) (JumpFalse other_at) a in
+        let ld = length-expr x v h b in
+        let le = length-put v (h + 1) (Jump behind) d in
+        let lf = length-expr y v h e in
+        let at_other : length e ≡ other_at = omega (arith, la, lb, ld, le) in
+        let at_end : length (expr_lines y v h e) ≡ behind = omega (arith, at_other, lf) in
+        let part_y = expr_part y h e n f.2 has end in
+        let part_d = word (h + 1) (h + 1) (Jump behind) d n has_e tt low tt tt (omega arith) (omega arith) (sits_at code v _ _ _ _ at_end refl end, tt) in
+        let part_x = expr_part x h b n f.1 has_d part_d.begins in
+        let part_a = word (h + 1) h (JumpFalse other_at) a n has_b tt low tt tt (omega arith) (omega arith)
+        (sits_at code v _ _ _ _ at_other refl part_y.begins, (next_sits code c v knows (h + 1) h (JumpFalse other_at) a part_x.begins, tt)) in
+        let part = expr_part t h lines n f.0 has_a part_a.begins in
+        part_and code v lines h a (h + 1) _ n n n part (part_and code v a (h + 1) b h _ n n n part_a
+        (part_and code v b h d (h + 1) _ n n n part_x (part_and code v d (h + 1) e h _ n n n part_d part_y)))
 
     pub exprs_part : (es : Exprs) (h : ℕ) (lines : List Line) (r : ℕ) → FitsExprs c h es → Has code (exprs_lines es v h lines)
         → Sits code v (length (exprs_lines es v h lines)) (h + count es) → Part code v lines h (exprs_lines es v h lines) r r

@@ -5,6 +5,7 @@ pub mod Behind
 pub mod Assignments
 pub mod Drafts
 pub mod Loops
+pub mod DoLoops
 pub mod Regions
 pub mod Statements
 pub mod Functions

@@ -81,6 +81,8 @@ module _ (c : Context) (kinds : Map Kind) (symbols : Map Symbol) (agree : (x : L
     stmt_fits (tree.While marked test s) here scopes m k a ok room le =
         loop_fits marked m here.in_loop _ _ (tt, expr_fits c kinds symbols agree test here scopes 0 a ok.0 (omega arith), tt)
         (stmt_fits s (inside_loop here) scopes (m || marked) k (record { known = a.known; here = a.here }) ok.1 room (omega arith))
+    stmt_fits (tree.DoWhile s test) here scopes m k a ok room le =
+        (stmt_fits s (inside_loop here) scopes m k (record { known = a.known; here = a.here }) ok.0 room (omega arith), expr_fits c kinds symbols agree test here scopes 0 a ok.1 (omega arith))
     stmt_fits (tree.For marked h s) here scopes m k a ok room le =
         let first = around_scope here scopes a in
         let behind = around_init h.init (in_scope here) ([] ∷ scopes) k first (omega arith) in

@@ -90,10 +90,10 @@ module _ (symbols : Map Symbol) where
         variable_size (Some j) word = refl
         variable_size None word = refl
     expr_short (tree.Element x e) scopes k from to (a, h, (b, i, (c, j, l))) =
-        omega (arith, named_takes x from a h, the_takes mark.OpenBracket a b i, expr_short e scopes 10 b c j, the_takes mark.CloseBracket c to l)
+        omega (arith, named_takes x from a h, the_takes mark.OpenBracket a b i, expr_short e scopes 11 b c j, the_takes mark.CloseBracket c to l)
     expr_short (tree.Call f es) scopes k from to (a, h, (b, i, (c, j, l))) =
         omega (arith, named_takes f from a h, the_takes mark.OpenParen a b i, arguments_short es scopes b c j, the_takes mark.CloseParen c to l)
-    expr_short (tree.Paren e) scopes k from to (a, h, (b, i, l)) = omega (arith, the_takes mark.OpenParen from a h, expr_short e scopes 10 a b i, the_takes mark.CloseParen b to l)
+    expr_short (tree.Paren e) scopes k from to (a, h, (b, i, l)) = omega (arith, the_takes mark.OpenParen from a h, expr_short e scopes 11 a b i, the_takes mark.CloseParen b to l)
     expr_short (tree.Unary o e) scopes k from to (a, h, i) = omega (arith, the_takes _ from a h, expr_short e scopes 0 a to i)
     expr_short (tree.Binary (Strict o) place l r) scopes k from to (fits, (a, h, (b, i, j))) =
         omega (arith, expr_short l scopes _ from a h, at_takes place _ a b i, expr_short r scopes _ b to j)
@@ -101,14 +101,16 @@ module _ (symbols : Map Symbol) where
         omega (arith, expr_short l scopes _ from a h, at_takes place _ a b i, expr_short r scopes _ b to j)
     expr_short (tree.Binary Or place l r) scopes k from to (fits, (a, h, (b, i, j))) =
         omega (arith, expr_short l scopes _ from a h, at_takes place _ a b i, expr_short r scopes _ b to j)
+    expr_short (tree.Conditional c a b) scopes k from to (fits, (d, h, (e, i, (f, j, (g, l, m))))) =
+        omega (arith, expr_short c scopes 10 from d h, the_takes mark.Question d e i, expr_short a scopes 11 e f j, the_takes mark.Colon f g l, expr_short b scopes 11 g to m)
 
     arguments_short : (es : tree.Exprs) (scopes : Scopes) (from to : List Token) → AreArguments es from to → Short (exprs_size (resolve_exprs es symbols scopes)) from to
     arguments_short tree.no_exprs scopes from to h = omega (arith, ap length h)
-    arguments_short (tree.expr_and e es) scopes from to (a, h, i) = omega (arith, expr_short e scopes 10 from a h, more_short es scopes a to i)
+    arguments_short (tree.expr_and e es) scopes from to (a, h, i) = omega (arith, expr_short e scopes 11 from a h, more_short es scopes a to i)
 
     more_short : (es : tree.Exprs) (scopes : Scopes) (from to : List Token) → AreMoreArguments es from to → Short (exprs_size (resolve_exprs es symbols scopes)) from to
     more_short tree.no_exprs scopes from to h = omega (arith, ap length h)
-    more_short (tree.expr_and e es) scopes from to (a, h, (b, i, j)) = omega (arith, the_takes mark.Comma from a h, expr_short e scopes 10 a b i, more_short es scopes b to j)
+    more_short (tree.expr_and e es) scopes from to (a, h, (b, i, j)) = omega (arith, the_takes mark.Comma from a h, expr_short e scopes 11 a b i, more_short es scopes b to j)
 
   -- ---- assignments
 
@@ -116,19 +118,19 @@ module _ (symbols : Map Symbol) where
       → assignment_size (resolved.Set (resolve_place p symbols scopes) e) + 5 * length to ≤ 5 * length from + expr_size e + 1
   set_short (tree.ToVariable x) e scopes from to h = omega (arith, named_takes x from to h, set_variable (private_word scopes x.text) (word_named x symbols) e)
   set_short (tree.ToElement x i) e scopes from to (a, h, (b, j, (c, k, l))) =
-      omega (arith, named_takes x from a h, the_takes mark.OpenBracket a b j, expr_short i scopes 10 b c k, the_takes mark.CloseBracket c to l)
+      omega (arith, named_takes x from a h, the_takes mark.OpenBracket a b j, expr_short i scopes 11 b c k, the_takes mark.CloseBracket c to l)
 
   update_short : (p : tree.Place) (f : Operator) (at : Pos) (e : resolved.Expr) (scopes : Scopes) (from to : List Token) → IsPlace p from to
       → assignment_size (resolved.Update (resolve_place p symbols scopes) f at e) + 5 * length to ≤ 5 * length from + expr_size e + 4
   update_short (tree.ToVariable x) f at e scopes from to h = omega (arith, named_takes x from to h, update_variable (private_word scopes x.text) (word_named x symbols) f at e)
   update_short (tree.ToElement x i) f at e scopes from to (a, h, (b, j, (c, k, l))) =
-      omega (arith, named_takes x from a h, the_takes mark.OpenBracket a b j, expr_short i scopes 10 b c k, the_takes mark.CloseBracket c to l)
+      omega (arith, named_takes x from a h, the_takes mark.OpenBracket a b j, expr_short i scopes 11 b c k, the_takes mark.CloseBracket c to l)
 
   assignment_short : (s : tree.Assignment) (scopes : Scopes) (from to : List Token) → IsAssignment s from to → Short (assignment_size (resolve_assignment s symbols scopes)) from to
   assignment_short (tree.Set p e) scopes from to (a, h, (b, i, j)) =
-      omega (arith, set_short p (resolve_expr e symbols scopes) scopes from a h, the_takes mark.Assign a b i, expr_short e scopes 10 b to j)
+      omega (arith, set_short p (resolve_expr e symbols scopes) scopes from a h, the_takes mark.Assign a b i, expr_short e scopes 11 b to j)
   assignment_short (tree.Update p o place e) scopes from to (a, h, (b, i, j)) =
-      omega (arith, update_short p o place (resolve_expr e symbols scopes) scopes from a h, updating_takes place o a b i, expr_short e scopes 10 b to j)
+      omega (arith, update_short p o place (resolve_expr e symbols scopes) scopes from a h, updating_takes place o a b i, expr_short e scopes 11 b to j)
   assignment_short (tree.Increment p) scopes from to (a, h, i) = omega (arith, update_short p op.Add no_place (resolved.Number 1) scopes from a h, the_takes mark.Increment a to i)
   assignment_short (tree.Decrement p) scopes from to (a, h, i) = omega (arith, update_short p op.Sub no_place (resolved.Number 1) scopes from a h, the_takes mark.Decrement a to i)
 
@@ -139,7 +141,7 @@ module _ (symbols : Map Symbol) where
     where
       go : (o : Option tree.Expr) → Optional (λ e x y. (mid : List Token) × The mark.Assign x mid × IsExpr e mid y) o a to → Short (expr_size (expr_or_zero o symbols scopes) + 1) from to
       go None i = omega (arith, named_takes d.name from a h, ap length i)
-      go (Some e) (b, j, k) = omega (arith, named_takes d.name from a h, the_takes mark.Assign a b j, expr_short e scopes 10 b to k)
+      go (Some e) (b, j, k) = omega (arith, named_takes d.name from a h, the_takes mark.Assign a b j, expr_short e scopes 11 b to k)
 
   more_locals_short : (ds : List tree.LocalDecl) (scopes : Scopes) (k : ℕ) (from to : List Token) → EachBehindComma IsLocal ds from to → Short (simples_size (resolve_locals ds symbols scopes k)) from to
   more_locals_short [] scopes k from to h = omega (arith, ap length h)
@@ -159,18 +161,18 @@ module _ (symbols : Map Symbol) where
   -- a test has a jump, which isn't counted here
   test_short : (t : Option tree.Expr) (scopes : Scopes) (from to : List Token) → Optional IsExpr t from to → test_size (option_map (λ e. resolve_expr e symbols scopes) t) + 5 * length to ≤ 5 * length from + 1
   test_short None scopes from to h = omega (arith, ap length h)
-  test_short (Some e) scopes from to h = omega (arith, expr_short e scopes 10 from to h)
+  test_short (Some e) scopes from to h = omega (arith, expr_short e scopes 11 from to h)
 
   step_short : (s : Option tree.Assignment) (scopes : Scopes) (from to : List Token) → Optional IsAssignment s from to → Short (step_size (option_map (λ a. resolve_assignment a symbols scopes) s)) from to
   step_short None scopes from to h = omega (arith, ap length h)
   step_short (Some s) scopes from to h = assignment_short s scopes from to h
 
   parens_short : (e : tree.Expr) (scopes : Scopes) (from to : List Token) → InParens e from to → expr_size (resolve_expr e symbols scopes) + 5 * length to + 10 ≤ 5 * length from
-  parens_short e scopes from to (a, h, (b, i, l)) = omega (arith, the_takes mark.OpenParen from a h, expr_short e scopes 10 a b i, the_takes mark.CloseParen b to l)
+  parens_short e scopes from to (a, h, (b, i, l)) = omega (arith, the_takes mark.OpenParen from a h, expr_short e scopes 11 a b i, the_takes mark.CloseParen b to l)
 
   return_short : (o : Option tree.Expr) (scopes : Scopes) (from to : List Token) → Optional IsExpr o from to → expr_size (expr_or_zero o symbols scopes) + 5 * length to ≤ 5 * length from + 1
   return_short None scopes from to h = omega (arith, ap length h)
-  return_short (Some e) scopes from to h = omega (arith, expr_short e scopes 10 from to h)
+  return_short (Some e) scopes from to h = omega (arith, expr_short e scopes 11 from to h)
 
   clauses_short : (h : tree.ForClauses) (scopes : Scopes) (k : ℕ) (from to : List Token) → AreForClauses h from to
       → simples_size (resolve_init h.init symbols scopes k) + test_size (option_map (λ e. resolve_expr e symbols (words_after_init h.init scopes k)) h.test)
@@ -228,6 +230,9 @@ module _ (symbols : Map Symbol) where
           let x = the_takes _ from a h in let y = parens_short e scopes a b i in let z = stmt_short s scopes k b to j in
           let size = inner_loop marked (while_clauses (resolve_expr e symbols scopes)) (resolve_stmt s (setting true) scopes k) in
           (omega (arith, x, y, z.0, size), outer_loop marked (while_clauses (resolve_expr e symbols scopes)) (λ m. resolve_stmt s (setting m) scopes k) from b to 5 (omega (arith, x, y)) (omega arith) z.0 z.1)
+      stmt_short (tree.DoWhile s e) scopes k from to (a, h, (b, i, (c, j, (d, l, m)))) =
+          let x = the_takes mark.Do from a h in let y = stmt_short s scopes k a b i in let z = the_takes mark.While b c j in
+          let u = parens_short e scopes c d l in let v = the_takes mark.Semicolon d to m in (omega (arith, x, y.0, z, u, v), omega (arith, x, y.1, z, u, v))
       stmt_short (tree.For marked h s) scopes k from to (a, g, (b, i, j)) =
           let x = the_takes _ from a g in
           let y = clauses_short h ([] ∷ scopes) k a b i in

@@ -17,6 +17,7 @@ use Rattle.hx_lowered.proofs.Expressions.{room_exprs, next_part, called, expr_pa
 use Rattle.hx_lowered.proofs.Assignments.{simple_part, simples_part, branch_part}
 use Rattle.hx_lowered.proofs.Drafts.{Holds, grows_branch, grows_word, loop_grows, stmt_grows, stmts_grows, stmt_keeps}
 use Rattle.hx_lowered.proofs.Loops.{DraftPart, LoopBody, plain_part}
+use Rattle.hx_lowered.proofs.DoLoops.{do_part}
 use Rattle.hx_lowered.proofs.Regions.{region_part}
 
 module _ (code : CodeView) (x : Context) where
@@ -99,6 +100,9 @@ module _ (code : CodeView) (x : Context) where
         (λ v' k o to' d' b' c' h' e'. stmt_part s true (marked_in m kind) v' to' d' f.2 k o (λ t. (b', c')) h' e') in
         let q = simples_part code x v knows c.init d.lines (length d.regions) f.0.0 (grows.holds holds).lines p.begins in
         part_and code v d.lines 0 a.lines 0 _ (length d.regions) (length d.regions) _ q p
+    stmt_part (resolved.DoWhile s test) l m v to d f knows outside jumps holds end =
+        do_part code x test (stmt_size s) v knows (λ to' d'. stmt_draft s v to' d') d (λ to' d'. stmt_grows code s v to' d') f.1 holds end
+        (λ to' d' b' c' h' e'. stmt_part s true m v to' d' f.0 knows outside (λ t. (b', c')) h' e')
     stmt_part resolved.Break l m v to d f knows outside jumps holds end =
         word_part code x v knows 0 0 (Jump to.break_to) d.lines (length d.regions) holds.lines tt (omega arith) tt tt (omega arith) (omega arith) ((jumps f).0, tt)
     stmt_part resolved.Continue l m v to d f knows outside jumps holds end =

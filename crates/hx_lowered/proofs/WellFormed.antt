@@ -7,7 +7,7 @@ use Rattle.hx_tree.specs.declared.limits.TheConstants.{FUNCTION_LIMIT, PARAMETER
 use Rattle.hx_tree.specs.declared.tree.BinaryOp.TheVariants.{Strict, And, Or}
 use Rattle.hx_check.specs.declared.resolved.Words.{Words}
 use Rattle.hx_check.specs.declared.resolved.Induct.{Induct}
-use Rattle.hx_check.specs.Resolved.{Expr, Number, Private, Word, Element, Call, Unary, Binary, Exprs, no_exprs, expr_and, ToPrivate, ToWord, ToElement, Assignment, Set, Update, Simple, Declare, Assign, Clauses, Region, LoopKind, Plain, IsRegion, Stmt, Block, Do, CallStatement, Print, Emit, If, IfElse, Loop, Break, Continue, Return, Stmts, no_stmts, stmt_and, Function, Program}
+use Rattle.hx_check.specs.Resolved.{Expr, Number, Private, Word, Element, Call, Unary, Binary, Conditional, Exprs, no_exprs, expr_and, ToPrivate, ToWord, ToElement, Assignment, Set, Update, Simple, Declare, Assign, Clauses, Region, LoopKind, Plain, IsRegion, Stmt, Block, Do, CallStatement, Print, Emit, If, IfElse, Loop, DoWhile, Break, Continue, Return, Stmts, no_stmts, stmt_and, Function, Program}
 use Rattle.hx_lowering.specs.Lines.{count}
 
 -- how many private words the function has, how many words the globals have, and how many parameters each function has
@@ -32,6 +32,7 @@ abbrev mutual
   FitsExpr c h (Binary (Strict op) pos l r) = FitsExpr c h l × FitsExpr c (h + 1) r
   FitsExpr c h (Binary And pos l r) = FitsExpr c h l × FitsExpr c h r
   FitsExpr c h (Binary Or pos l r) = FitsExpr c h l × FitsExpr c h r
+  FitsExpr c h (Conditional test chosen other) = FitsExpr c h test × FitsExpr c h chosen × FitsExpr c h other
 
   pub FitsExprs : Context → ℕ → Exprs → Type 0
   FitsExprs c h no_exprs = Unit {0}
@@ -112,6 +113,7 @@ abbrev mutual
   FitsStmt c l m (If test s) = FitsExpr c 0 test × FitsStmt c l m s
   FitsStmt c l m (IfElse test s other) = FitsExpr c 0 test × FitsStmt c l m s × FitsStmt c l m other
   FitsStmt c l m (Loop kind h s) = FitsClauses c h × FitsKind c m kind × FitsStmt c true (marked_in m kind) s
+  FitsStmt c l m (DoWhile s test) = FitsStmt c true m s × FitsExpr c 0 test
   FitsStmt c l m Break = IsTrue l
   FitsStmt c l m Continue = IsTrue l
   FitsStmt c l m (Return e) = FitsExpr c 0 e

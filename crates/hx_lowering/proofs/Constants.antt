@@ -23,7 +23,7 @@ use Rattle.hx_code.specs.declared.word.Word.TheVariants.{Const, Glob, SetGlob, E
 use Rattle.hx_lowering.specs.declared.line.Line.{Line}
 use Rattle.hx_lowering.specs.Size.{expr_size, turn_size, stmt_size}
 use Rattle.hx_lowering.specs.Lines.{Version, put, cell_of, get_at, set_at, get_private, set_private, array_of, expr_lines, exprs_lines, assignment_lines, simples_lines, test_lines, step_lines}
-use Rattle.hx_lowering.specs.Draft.{Draft, Targets, with_lines, put_word, inside, turn_draft, targets, plain_draft, turns_draft, loop_draft, stmt_draft, stmts_draft, plain_version, no_targets, function_draft, functions_draft, no_draft, draft_of, code_of}
+use Rattle.hx_lowering.specs.Draft.{Draft, Targets, with_lines, put_word, inside, turn_draft, targets, do_targets, plain_draft, turns_draft, loop_draft, stmt_draft, stmts_draft, plain_version, no_targets, function_draft, functions_draft, no_draft, draft_of, code_of}
 use Rattle.hx_lowering.proofs.Ranged.{small_number}
 use Rattle.hx_lowering.proofs.Kept.{IsSmall, CodeIsSmall}
 use Rattle.hx_lowering.proofs.Declares.{draft_then}
@@ -81,6 +81,11 @@ or_small l r at sl sr v h lines s =
     small_put v h (Const (pos 1)) _
     (small_put v (h + 1) (Jump (one_at + 1)) _ (small_put v h (Const (pos 0)) _ (small_put v (h + 1) (JumpTrue one_at) _ (sr v h _ (small_put v (h + 1) (JumpTrue one_at) _ (sl v h lines s) tt)) tt) small_zero) tt) small_one
 
+conditional_small : (c a b : resolved.Expr) → SmallExpr c → SmallExpr a → SmallExpr b → SmallExpr (resolved.Conditional c a b)
+conditional_small c a b sc sa sb v h lines s =
+    let other_at = length lines + expr_size c + 1 + expr_size a + 1 in
+    sb v h _ (small_put v (h + 1) (Jump (other_at + expr_size b)) _ (sa v h _ (small_put v (h + 1) (JumpFalse other_at) _ (sc v h lines s) tt)) tt)
+
 module _ (symbols : Map Symbol) where
   mutual
     expr_small : (e : tree.Expr) (here : Surroundings) (scopes : Scopes) → AcceptsExpr e here → SmallExpr (resolve_expr e symbols scopes)
@@ -93,6 +98,8 @@ module _ (symbols : Map Symbol) where
     expr_small (tree.Binary (Strict op) at l r) here scopes ok v h lines s = small_put v (h + 2) (Binary op at) _ (expr_small r here scopes ok.1 v (h + 1) _ (expr_small l here scopes ok.0 v h lines s)) tt
     expr_small (tree.Binary And at l r) here scopes ok v h lines s = and_small (resolve_expr l symbols scopes) (resolve_expr r symbols scopes) at (expr_small l here scopes ok.0) (expr_small r here scopes ok.1) v h lines s
     expr_small (tree.Binary Or at l r) here scopes ok v h lines s = or_small (resolve_expr l symbols scopes) (resolve_expr r symbols scopes) at (expr_small l here scopes ok.0) (expr_small r here scopes ok.1) v h lines s
+    expr_small (tree.Conditional c a b) here scopes ok v h lines s =
+        conditional_small (resolve_expr c symbols scopes) (resolve_expr a symbols scopes) (resolve_expr b symbols scopes) (expr_small c here scopes ok.0) (expr_small a here scopes ok.1) (expr_small b here scopes ok.2) v h lines s
 
     exprs_small : (es : tree.Exprs) (here : Surroundings) (scopes : Scopes) → AcceptsExprs es here → SmallExprs (resolve_exprs es symbols scopes)
     exprs_small tree.no_exprs here scopes ok v h lines s = s
@@ -226,6 +233,11 @@ module _ (symbols : Map Symbol) where
         loop_small (while_clauses (resolve_expr test around.symbols scopes)) (resolve_stmt st (resolve.inside marked around) scopes k)
         (test_small around.symbols (Some test) here scopes ok.0) (λ v' lines s'. s') (stmt_small st (inside_loop here) (resolve.inside marked around) same scopes k ok.1)
         (kind_if (marked && not around.is_marked) around.privates (while_clauses (resolve_expr test around.symbols scopes)) (resolve_stmt st (resolve.inside marked around) scopes k)) v (with_lines d d.lines) s
+    stmt_small (tree.DoWhile st test) here around same scopes k ok v to d s =
+        let rt = resolve_expr test around.symbols scopes in
+        let rb = resolve_stmt st around scopes k in
+        small_put v 1 (JumpTrue (length d.lines)) _
+        (expr_small around.symbols test here scopes ok.1 v 0 _ (stmt_small st (inside_loop here) around same scopes k ok.0 v (do_targets rt (stmt_size rb) (length d.lines)) d s)) tt
     stmt_small (tree.For marked h st) here around same scopes k ok v to d s =
         let inner = words_after_init h.init ([] ∷ scopes) k in
         let after = after_init h.init (in_scope here) in

@@ -39,6 +39,7 @@ token (tree.Call f es) z h = absurd cc
 token (tree.Paren e) z h = absurd cc
 token (tree.Unary o e) z h = absurd cc
 token (tree.Binary o at l r) z h = absurd cc
+token (tree.Conditional c a b) z h = absurd cc
 
 -- ---- updates of a local by a number
 

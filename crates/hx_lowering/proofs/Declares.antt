@@ -72,6 +72,7 @@ mutual
   declares_from (tree.If test s) around scopes k j lt = declares_from s around scopes k j lt
   declares_from (tree.IfElse test s other) around scopes k j lt = neither _ _ (declares_from s around scopes k j lt) (declares_from other around scopes (k + stmt_locals s) j (omega arith))
   declares_from (tree.While marked test s) around scopes k j lt = declares_from s _ scopes k j lt
+  declares_from (tree.DoWhile s test) around scopes k j lt = declares_from s around scopes k j lt
   declares_from (tree.For marked h s) around scopes k j lt =
       neither _ _ (init_from h.init around.symbols ([] ∷ scopes) k j lt) (declares_from s _ (words_after_init h.init ([] ∷ scopes) k) (k + init_locals h.init) j (omega arith))
   declares_from (tree.Break place) around scopes k j lt = refl

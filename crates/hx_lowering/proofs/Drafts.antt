@@ -3,12 +3,12 @@ use Rattle.std.proofs.Common.{◌≡◌, ℕ, ◌+◌, List, [], ◌∷◌, ◌+
 use Rattle.hx_check.specs.Resolved as resolved
 use Rattle.hx_check.specs.Resolved.{Expr, Exprs, Assignment, Simple, Clauses, LoopKind, Stmt, Stmts}
 use Rattle.hx_code.specs.declared.word.Word.{Word}
-use Rattle.hx_code.specs.declared.word.Word.TheVariants.{Glob, SetGlob, Elem, SetElem, Dup, Drop, Binary, Jump, JumpFalse, Call, Ret, Print, Emit, Enter, Turn, Leave}
+use Rattle.hx_code.specs.declared.word.Word.TheVariants.{Glob, SetGlob, Elem, SetElem, Dup, Drop, Binary, Jump, JumpFalse, JumpTrue, Call, Ret, Print, Emit, Enter, Turn, Leave}
 use Rattle.hx_code.specs.Code.{CodeView, RegionView}
 use Rattle.hx_lowering.specs.declared.line.Line.{Line}
 use Rattle.hx_lowering.specs.Size.{expr_size, assignment_size, simple_size, simples_size, test_size, step_size, turn_size, loop_size, stmt_size, stmts_size}
 use Rattle.hx_lowering.specs.Lines.{Version, put, get_private, set_private, array_of, count, expr_lines, exprs_lines, assignment_lines, simple_lines, simples_lines, test_lines, step_lines}
-use Rattle.hx_lowering.specs.Draft.{Draft, Targets, with_lines, put_word, inside, targets, turn_draft, plain_draft, turns_draft, region_draft, loop_draft, stmt_draft, stmts_draft}
+use Rattle.hx_lowering.specs.Draft.{Draft, Targets, with_lines, put_word, inside, targets, do_targets, turn_draft, plain_draft, turns_draft, region_draft, loop_draft, stmt_draft, stmts_draft}
 use Rattle.hx_lowering.proofs.Stand.{Has, has_before, has_expr, has_exprs, length-put, length-expr, length-exprs}
 
 -- the code begins with this draft's lines and regions
@@ -89,6 +89,9 @@ module _ (code : CodeView) where
         has_lines d _ (has_stmt s v to _ (has_word v 0 _ _ (has_stmt other v to _ has))) (λ h. has_expr code test v 0 d.lines (has_before code v 1 _ _ h))
     has_stmt (resolved.Loop kind c s) v to d has =
         has_lines d _ (has_loop kind c (stmt_size s) _ v (λ v' to' d'. has_stmt s v' to' d') _ has) (has_simples c.init v d.lines)
+    has_stmt (resolved.DoWhile s test) v to d has =
+        has_stmt s v (do_targets test (stmt_size s) (length d.lines)) d
+        (has_lines (stmt_draft s v (do_targets test (stmt_size s) (length d.lines)) d) _ has (λ h. has_expr code test v 0 _ (has_before code v 1 _ _ h)))
     has_stmt resolved.Break v to d has = has_word v 0 _ d has
     has_stmt resolved.Continue v to d has = has_word v 0 _ d has
     has_stmt (resolved.Return e) v to d has = has_lines d _ has (λ h. has_expr code e v 0 d.lines (has_before code v 1 _ _ h))
@@ -185,6 +188,10 @@ mutual
   length-stmt (resolved.Loop kind c s) v to d =
       let d' = with_lines d (simples_lines c.init v d.lines) in
       omega (arith, length-simples c.init v d.lines, length-loop kind c (stmt_size s) (λ v' to' d''. stmt_draft s v' to' d'') v (λ v' to' d''. length-stmt s v' to' d'') d')
+  length-stmt (resolved.DoWhile s test) v to d =
+      let T = do_targets test (stmt_size s) (length d.lines) in
+      let b = stmt_draft s v T d in
+      omega (arith, length-stmt s v T d, length-expr test v 0 b.lines, length-put v 1 (JumpTrue (length d.lines)) (expr_lines test v 0 b.lines))
   length-stmt resolved.Break v to d = length-put v 0 _ d.lines
   length-stmt resolved.Continue v to d = length-put v 0 _ d.lines
   length-stmt (resolved.Return e) v to d = omega (arith, length-put v 1 Ret (expr_lines e v 0 d.lines), length-expr e v 0 d.lines)

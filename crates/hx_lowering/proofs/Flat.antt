@@ -32,6 +32,7 @@ mutual
   flat_stmt (tree.IfElse test s other) symbols privates scopes k v to d = flat_stmt other symbols privates scopes (k + stmt_locals s) v to _ ∙ flat_stmt s symbols privates scopes k v to _
   flat_stmt (tree.While true test s) symbols privates scopes k v to d = flat_stmt s symbols privates scopes k v _ _
   flat_stmt (tree.While false test s) symbols privates scopes k v to d = flat_stmt s symbols privates scopes k v _ _
+  flat_stmt (tree.DoWhile s test) symbols privates scopes k v to d = flat_stmt s symbols privates scopes k v _ d
   flat_stmt (tree.For true h s) symbols privates scopes k v to d = flat_stmt s symbols privates (words_after_init h.init ([] ∷ scopes) k) (k + init_locals h.init) v _ _
   flat_stmt (tree.For false h s) symbols privates scopes k v to d = flat_stmt s symbols privates (words_after_init h.init ([] ∷ scopes) k) (k + init_locals h.init) v _ _
   flat_stmt (tree.Break place) symbols privates scopes k v to d = refl

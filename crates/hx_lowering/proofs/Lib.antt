@@ -14,6 +14,7 @@ pub mod Writes
 pub mod Assigns
 pub mod Counted
 pub mod Loops
+pub mod DoLoops
 pub mod Regions
 pub mod Marked
 pub mod Flat

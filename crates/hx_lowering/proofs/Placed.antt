@@ -28,6 +28,7 @@ mutual
   keeps_stmt (resolved.If test s) v to d = keeps_stmt s v to _
   keeps_stmt (resolved.IfElse test s other) v to d = keeps_stmt other v to _ ∙ keeps_stmt s v to _
   keeps_stmt (resolved.Loop kind c s) v to d = keeps_loop kind c _ (λ v' to' d'. stmt_draft s v' to' d') v (λ v' to' d'. keeps_stmt s v' to' d') _
+  keeps_stmt (resolved.DoWhile s test) v to d = keeps_stmt s v _ d
   keeps_stmt resolved.Break v to d = refl
   keeps_stmt resolved.Continue v to d = refl
   keeps_stmt (resolved.Return e) v to d = refl

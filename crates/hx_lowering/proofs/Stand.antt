@@ -63,6 +63,8 @@ module _ (code : CodeView) where
         has_expr l v h lines (has_before v (h + 1) _ _ (has_expr r v h _ (has_before v (h + 1) _ _ (has_before v h _ _ (has_before v (h + 1) _ _ (has_before v h _ _ has))))))
     has_expr (resolved.Binary Or at l r) v h lines has =
         has_expr l v h lines (has_before v (h + 1) _ _ (has_expr r v h _ (has_before v (h + 1) _ _ (has_before v h _ _ (has_before v (h + 1) _ _ (has_before v h _ _ has))))))
+    has_expr (resolved.Conditional c a b) v h lines has =
+        has_expr c v h lines (has_before v (h + 1) _ _ (has_expr a v h _ (has_before v (h + 1) _ _ (has_expr b v h _ has))))
 
     pub has_exprs : (es : Exprs) (v : Version) (h : ℕ) (lines : List Line) → Has code (exprs_lines es v h lines) → Has code lines
     has_exprs resolved.no_exprs v h lines has = has
@@ -101,6 +103,13 @@ mutual
       let e = put v h (Const (pos 0)) d in
       let f = put v (h + 1) (Jump (to + 1)) e in
       omega (arith, length-expr l v h lines, length-put v (h + 1) (JumpTrue to) a, length-expr r v h b, length-put v (h + 1) (JumpTrue to) c, length-put v h (Const (pos 0)) d, length-put v (h + 1) (Jump (to + 1)) e, length-put v h (Const (pos 1)) f)
+  length-expr (resolved.Conditional c a b) v h lines =
+      let other_at = length lines + expr_size c + 1 + expr_size a + 1 in
+      let d = expr_lines c v h lines in
+      let e = put v (h + 1) (JumpFalse other_at) d in
+      let f = expr_lines a v h e in
+      let g = put v (h + 1) (Jump (other_at + expr_size b)) f in
+      omega (arith, length-expr c v h lines, length-put v (h + 1) (JumpFalse other_at) d, length-expr a v h e, length-put v (h + 1) (Jump (other_at + expr_size b)) f, length-expr b v h g)
 
   pub length-exprs : (es : Exprs) (v : Version) (h : ℕ) (lines : List Line) → length (exprs_lines es v h lines) ≡ length lines + exprs_size es
   length-exprs resolved.no_exprs v h lines = omega arith

@@ -28,7 +28,7 @@ use Rattle.hx_code.specs.Machine.{Machine, machine_step}
 use Rattle.hx_lowering.specs.declared.line.Line.{Line}
 use Rattle.hx_lowering.specs.Lines.{put, set_private, count, expr_lines, exprs_lines, assignment_lines, simples_lines}
 use Rattle.hx_lowering.specs.Size.{expr_size, stmt_size}
-use Rattle.hx_lowering.specs.Draft.{Draft, with_lines, put_word, loop_draft, stmt_draft, stmts_draft}
+use Rattle.hx_lowering.specs.Draft.{Draft, with_lines, put_word, do_targets, loop_draft, stmt_draft, stmts_draft}
 use Rattle.hx_lowering.proofs.Globals.{words_in}
 use Rattle.hx_lowering.proofs.Follow.{Follows, follows_then, at_once}
 use Rattle.hx_lowering.proofs.Setting.{Back, returns_back}
@@ -45,6 +45,7 @@ use Rattle.hx_lowering.proofs.Assigns.{Free, Loose, value_here, values_here, cal
 use Rattle.hx_lowering.proofs.Calling.{onto}
 use Rattle.hx_lowering.proofs.Drafts.{HasDraft, has_word, has_stmt, has_stmts, has_simples, has_loop, length-stmt}
 use Rattle.hx_lowering.proofs.Loops.{clauses_of}
+use Rattle.hx_lowering.proofs.DoLoops.{in_do, holds_in_do, fair_in_do, has_body, do_follows}
 use Rattle.hx_lowering.proofs.Marked.{loop_follows}
 use Rattle.hx_lowering.proofs.Flat.{flat_stmt}
 
@@ -440,6 +441,16 @@ module _ (p : Program) (code : CodeView) (words : code.globals ≡ words_in (lay
         (λ j r. (let own = not_below j k (stmt_declares j rs) (declares j) r in (own_unfixed k reads_any writes_any base j own, own_unkept k reads_any writes_any base j own)))
         _ has' ps' cells' holds' w' m' at')
         d has ps cells holds w m at
+    stmt_follows (tree.DoWhile st test) s fair scopes here around loops k tidy fits ok free loose fresh d has ps cells holds w m at =
+        let rt = resolve_expr test (symbols_of p) scopes in
+        let rs = resolve_stmt st (around_of p s) scopes k in
+        let to = do_targets rt (stmt_size rs) (length d.lines) in
+        do_follows p code words s fair k scopes tidy (omega arith) here around test ok.1 (free_right s (λ j. stmt_reads j rs) (λ j. expr_reads j rt) free) rs (λ env. effect st s.context env) d has
+        (λ ps' cells' holds' w' m' at'. stmt_follows st (in_do s to) (fair_in_do p code words s to fair) scopes (inside_loop here) (loop_in scopes here around) (λ e. refl) k tidy fits ok.0
+        (free_left s (λ j. stmt_reads j rs) (λ j. expr_reads j rt) free) loose fresh d
+        (has_body p code words s fair k scopes tidy (omega arith) here around test ok.1 (free_right s (λ j. stmt_reads j rs) (λ j. expr_reads j rt) free) rs (λ env. effect st s.context env) d has)
+        ps' cells' (holds_in_do s to ps' cells' holds') w' m' at')
+        ps cells holds w m at
     stmt_follows (tree.For marked h st) s fair scopes here around loops k tidy fits ok free loose fresh d has ps cells holds w m at =
         let v = s.version in
         let n = s.context.turns in

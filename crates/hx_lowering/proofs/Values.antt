@@ -320,6 +320,30 @@ module _ (p : Program) (code : CodeView) (K : Ground) (v : Version) (words : cod
           (value_follows r ok.1 h held ps os cells (λ k e. reads k (or_right _ _ e)) b has_c w' m'' at'')
           (λ y w3 m3 at3. subst (λ g. Follows code n m3 (g w3) (Leaves done ps os cells)) (sym (truth_decided (is_zero y)))
           (jump_true_follows n (h + 1) to y ps os cells w3 m3 c (gives (pos 1)) (gives (pos 0)) (Leaves done ps os cells) has_d at3 (on_one w3) (on_zero w3)))))
+      value_follows (tree.Conditional test chosen other) ok h held ps os cells reads lines has w m at =
+          let other_at = length lines + expr_size (R test) + 1 + expr_size (R chosen) + 1 in
+          let behind = other_at + expr_size (R other) in
+          let a = expr_lines (R test) v h lines in
+          let b = put v (h + 1) (JumpFalse other_at) a in
+          let c = expr_lines (R chosen) v h b in
+          let d = put v (h + 1) (Jump behind) c in
+          let done = expr_lines (R other) v h d in
+          let has_d = has_expr code (R other) v h d has in
+          let has_c = has_before code v (h + 1) (Jump behind) c has_d in
+          let has_b = has_expr code (R chosen) v h b has_c in
+          let at_other : other_at ≡ length d = omega (arith, length-expr (R test) v h lines, length-put v (h + 1) (JumpFalse other_at) a, length-expr (R chosen) v h b, length-put v (h + 1) (Jump behind) c) in
+          let at_end : behind ≡ length done = omega (arith, at_other, length-expr (R other) v h d) in
+          let env = env_of scopes held in
+          let Done = Leaves done ps os cells in
+          follows_then code n m (value test call env w) (λ x. if is_zero x then value other call env else value chosen call env) (Leaves a ps os cells) Done
+          (value_follows test ok.0 h held ps os cells (λ k e. reads k (or_left _ _ (or_left _ _ e))) lines (has_before code v (h + 1) (JumpFalse other_at) a has_b) w m at)
+          (λ x w' m' at'. jump_follows n (h + 1) other_at x ps os cells w' m' a (value other call env) (value chosen call env) Done has_b at'
+          (λ m'' at''. value_follows other ok.2 h held ps os cells (λ k e. reads k (or_right _ _ e)) d has w' m'' (at_place p code K other_at (length d) ps os cells w' m'' at_other at''))
+          (λ m'' at''. follows_last code n m'' (value chosen call env w') Done
+          (follows_then code n m'' (value chosen call env w') (λ z. gives z) (Leaves c ps os cells) Done
+          (value_follows chosen ok.1 h held ps os cells (λ k e. reads k (or_left _ _ (or_right _ _ e))) b has_c w' m'' at'')
+          (λ z w3 m3 at3. goes_to p code K n (length c) behind ps ps (z ∷ os) (z ∷ os) cells w3 m3 (Jump behind) (Gives z w3) Done at3 (word_stands code v (h + 1) (Jump behind) c has_d) refl
+          (λ m4 at4. value_at_once n m4 done ps os cells z w3 (at_place p code K behind (length done) ps (z ∷ os) cells w3 m4 at_end at4))))))
 
       pub values_follow : (es : tree.Exprs) → AcceptsExprs es here
           → (h : ℕ) (held : ℕ → ℤ) (ps os cells : List ℤ) → Reads v ps cells held (λ k. exprs_read k (resolve_exprs es (symbols_of p) scopes))

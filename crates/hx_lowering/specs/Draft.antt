@@ -1,9 +1,9 @@
 -- The words of statements, functions and whole programs, with their tables.
 use Rattle.std.specs.Prelude.{ℕ, ◌+◌, List, [], ◌∷◌, ◌++◌, length, map, pos, Some, None, option_map}
 use Rattle.hx_check.specs.Resolved as resolved
-use Rattle.hx_check.specs.Resolved.{Clauses, LoopKind, Stmt, Stmts, Function, Program}
+use Rattle.hx_check.specs.Resolved.{Expr, Clauses, LoopKind, Stmt, Stmts, Function, Program}
 use Rattle.hx_code.specs.declared.word.Word.{Word}
-use Rattle.hx_code.specs.declared.word.Word.TheVariants.{Const, Drop, Jump, JumpFalse, Call, Ret, Print, Emit, Enter, Turn, Leave}
+use Rattle.hx_code.specs.declared.word.Word.TheVariants.{Const, Drop, Jump, JumpFalse, JumpTrue, Call, Ret, Print, Emit, Enter, Turn, Leave}
 use Rattle.hx_code.specs.declared.table.Carried.{Carried}
 use Rattle.hx_code.specs.declared.table.Induct.{Induct}
 use Rattle.hx_check.specs.declared.resolved.Induct as counted
@@ -92,6 +92,17 @@ abbrev pub loop_draft : LoopKind → Clauses → ℕ → (Version → Targets �
 loop_draft resolved.Plain c size body v d = plain_draft c size (body v) v d
 loop_draft (resolved.IsRegion r) c size body v d = region_draft r c size body v d
 
+-- where `break` and `continue` go in the body of a `do` that begins at start
+abbrev pub do_targets : Expr → ℕ → ℕ → Targets
+do_targets test size start = record { break_to = start + size + expr_size test + 1; continue_to = start + size }
+
+-- a `do`: the body, and behind it the test, which jumps back where it isn't 0
+abbrev pub do_draft : Expr → ℕ → (Targets → Draft → Draft) → Version → Draft → Draft
+do_draft test size body v d =
+    let start = length d.lines in
+    let done = body (do_targets test size start) d in
+    with_lines done (put v 1 (JumpTrue start) (expr_lines test v 0 done.lines))
+
 -- ---- statements
 
 abbrev mutual
@@ -112,6 +123,7 @@ abbrev mutual
       (stmt_draft s v to (with_lines d (put v 1 (JumpFalse other_at) (expr_lines test v 0 d.lines)))))
   stmt_draft (resolved.Loop kind c s) v to d =
       loop_draft kind c (stmt_size s) (λ v' to' d'. stmt_draft s v' to' d') v (with_lines d (simples_lines c.init v d.lines))
+  stmt_draft (resolved.DoWhile s test) v to d = do_draft test (stmt_size s) (λ to' d'. stmt_draft s v to' d') v d
   stmt_draft resolved.Break v to d = put_word v 0 (Jump to.break_to) d
   stmt_draft resolved.Continue v to d = put_word v 0 (Jump to.continue_to) d
   stmt_draft (resolved.Return e) v to d = with_lines d (put v 1 Ret (expr_lines e v 0 d.lines))

@@ -70,6 +70,11 @@ abbrev mutual
       put v h (Const (pos 1)) (put v (h + 1) (Jump (one_at + 1)) (put v h (Const (pos 0))
       (put v (h + 1) (JumpTrue one_at) (expr_lines r v h
       (put v (h + 1) (JumpTrue one_at) (expr_lines l v h lines))))))
+  expr_lines (resolved.Conditional c a b) v h lines =
+      let other_at = length lines + expr_size c + 1 + expr_size a + 1 in
+      expr_lines b v h
+      (put v (h + 1) (Jump (other_at + expr_size b)) (expr_lines a v h
+      (put v (h + 1) (JumpFalse other_at) (expr_lines c v h lines))))
 
   pub exprs_lines : Exprs → Version → ℕ → List Line → List Line
   exprs_lines resolved.no_exprs v h lines = lines

@@ -1,7 +1,7 @@
 -- How many words each part of a program has.
 use Rattle.std.specs.Prelude.{ℕ, ◌+◌, List, [], ◌∷◌, Option, Some, None}
 use Rattle.hx_tree.specs.declared.tree.BinaryOp.TheVariants.{Strict, And, Or}
-use Rattle.hx_check.specs.Resolved.{Expr, Number, Private, Word, Element, Call, Unary, Binary, Exprs, no_exprs, expr_and, ToPrivate, ToWord, ToElement, Assignment, Set, Update, Simple, Declare, Assign, Clauses, LoopKind, Plain, IsRegion, Stmt, Block, Do, CallStatement, Print, Emit, If, IfElse, Loop, Break, Continue, Return, Stmts, no_stmts, stmt_and}
+use Rattle.hx_check.specs.Resolved.{Expr, Number, Private, Word, Element, Call, Unary, Binary, Conditional, Exprs, no_exprs, expr_and, ToPrivate, ToWord, ToElement, Assignment, Set, Update, Simple, Declare, Assign, Clauses, LoopKind, Plain, IsRegion, Stmt, Block, Do, CallStatement, Print, Emit, If, IfElse, Loop, DoWhile, Break, Continue, Return, Stmts, no_stmts, stmt_and}
 
 abbrev mutual
   pub expr_size : Expr → ℕ
@@ -14,6 +14,7 @@ abbrev mutual
   expr_size (Binary (Strict op) pos l r) = expr_size l + expr_size r + 1
   expr_size (Binary And pos l r) = expr_size l + 1 + expr_size r + 4
   expr_size (Binary Or pos l r) = expr_size l + 1 + expr_size r + 4
+  expr_size (Conditional c a b) = expr_size c + 1 + expr_size a + 1 + expr_size b
 
   pub exprs_size : Exprs → ℕ
   exprs_size no_exprs = 0
@@ -64,6 +65,7 @@ abbrev mutual
   stmt_size (If test s) = expr_size test + 1 + stmt_size s
   stmt_size (IfElse test s other) = expr_size test + 1 + stmt_size s + 1 + stmt_size other
   stmt_size (Loop kind c s) = simples_size c.init + loop_size kind (turn_size c (stmt_size s))
+  stmt_size (DoWhile s test) = stmt_size s + expr_size test + 1
   stmt_size Break = 1
   stmt_size Continue = 1
   stmt_size (Return e) = expr_size e + 1

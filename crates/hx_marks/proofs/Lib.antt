@@ -1,1 +1,5 @@
+pub mod Columns
+pub mod Lanes
+pub mod Shifts
 pub mod Tables
+pub mod Windows

@@ -1,10 +1,10 @@
 -- Facts on tables.
-use Rattle.std.proofs.Common.{◌≡◌, ◌≢◌, ℕ, ℤ, ◌<◌, Bool, true, false, [], ◌∷◌, ◌==◌, Some, None, refl, sym, ap, ◌∙◌, subst, arith, length, suc, ◌≤◌, get_or, slice_set, insert, ap₂, inl, inr}
+use Rattle.std.proofs.Common.{◌≡◌, ◌≢◌, ℕ, ℤ, ◌<◌, Bool, true, false, [], ◌∷◌, ◌==◌, Some, None, refl, sym, ap, ◌∙◌, subst, arith, ◌≤◌, ap₂, inl, inr}
 use Rattle.std.specs.Prelude.{if◌then◌else◌, nat_lt}
 use Rattle.std.proofs.lemmas.Bool.{cases_lt}
 use Rattle.std.proofs.lemmas.Bool.Decides.{nat_tests}
 use Rattle.hx_marks.specs.declared.marks.Entry.{Entry}
-use Rattle.hx_marks.specs.Table.{Table, AreAbove, IsRising, look, put, count_below, HaveSameValues}
+use Rattle.hx_marks.specs.Table.{Table, AreAbove, IsRising, look, put, HaveSameValues}
 
 if_is : {A : Type 0} (P : A → Type 0) (t : Bool) (x y : A) → (t ≡ true → P x) → (t ≡ false → P y) → P (if t then x else y)
 if_is P true x y f g = f refl
@@ -42,79 +42,6 @@ look_above (e ∷ es) a k = grind (arith, nat_tests, k.0, look_above es a k.1)
 
 look_first : (e : Entry) (es : Table) → look (e ∷ es) e.word ≡ Some e.value
 look_first e es = grind (arith, nat_tests)
-
--- the word at the place of a is a
-pub look_at : (t : Table) (a : ℕ) (x : Entry) → count_below t a < length t → x ≡ get_or t (count_below t a) x → x.word ≡ a → look t a ≡ Some x.value
-look_at [] a x lt is w = absurd (omega arith)
-look_at (e ∷ es) a x lt is w =
-    if_is (λ n. n < suc (length es) → x ≡ get_or (e ∷ es) n x → look (e ∷ es) a ≡ Some x.value) (nat_lt e.word a) _ _
-    (λ less l i. grind (arith, nat_tests, less, look_at es a x (omega arith) i w))
-    (λ _ l i. let same : e.word ≡ a = sym (ap (λ (y : Entry). y.word) i) ∙ w in let value : e.value ≡ x.value = sym (ap (λ (y : Entry). y.value) i) in grind (arith, nat_tests, same, value)) lt is
-
--- no word at the place of a
-pub look_past_end : (t : Table) (a : ℕ) → length t ≤ count_below t a → look t a ≡ None
-look_past_end [] a p = refl
-look_past_end (e ∷ es) a p =
-    if_is (λ n. suc (length es) ≤ n → look (e ∷ es) a ≡ None) (nat_lt e.word a) _ _
-    (λ less l. grind (arith, nat_tests, less, look_past_end es a (omega arith)))
-    (λ _ l. absurd (omega arith)) p
-
--- another word at the place of a
-pub look_at_other : (t : Table) (a : ℕ) (x : Entry) → IsRising t → count_below t a < length t → x ≡ get_or t (count_below t a) x → x.word ≢ a → look t a ≡ None
-look_at_other [] a x r lt is w = absurd (omega arith)
-look_at_other (e ∷ es) a x r lt is w =
-    if_is (λ n. n < suc (length es) → x ≡ get_or (e ∷ es) n x → look (e ∷ es) a ≡ None) (nat_lt e.word a) _ _
-    (λ less l i. grind (arith, nat_tests, less, look_at_other es a x r.1 (omega arith) i w))
-    (λ not_less l i.
-    let other : e.word ≢ a = (λ h. w (ap (λ (y : Entry). y.word) i ∙ h)) in
-    let below : a < e.word = grind (arith, nat_tests, not_less, other) in
-    grind (arith, nat_tests, other, look_above es a (above_less a e.word es below r.0))) lt is
-
--- what is put for a word that is there
-pub put_at : (t : Table) (a : ℕ) (v : ℤ) (x : Entry) → count_below t a < length t → x ≡ get_or t (count_below t a) x → x.word ≡ a → put t a v ≡ slice_set t (count_below t a) (record { word = a; value = v })
-put_at [] a v x lt is w = absurd (omega arith)
-put_at (e ∷ es) a v x lt is w =
-    if_is (λ n. n < suc (length es) → x ≡ get_or (e ∷ es) n x → put (e ∷ es) a v ≡ slice_set (e ∷ es) n (record { word = a; value = v })) (nat_lt e.word a) _ _
-    (λ less l i. rw less (ap (λ u. e ∷ u) (put_at es a v x (omega arith) i w)))
-    (λ not_less l i. let same : e.word ≡ a = sym (ap (λ (y : Entry). y.word) i) ∙ w in let is_a : (e.word == a) ≡ true = grind (arith, nat_tests, same) in rw (not_less, is_a) refl) lt is
-
--- what is put for a word that isn't there
-pub put_new : (t : Table) (a : ℕ) (v : ℤ) → look t a ≡ None → put t a v ≡ insert t (count_below t a) (record { word = a; value = v })
-put_new [] a v h = refl
-put_new (e ∷ es) a v h =
-    if_is (λ n. put (e ∷ es) a v ≡ insert (e ∷ es) n (record { word = a; value = v })) (nat_lt e.word a) _ _
-    (λ less. let none : look es a ≡ None = grind (arith, nat_tests, less, h) in rw less (ap (λ u. e ∷ u) (put_new es a v none)))
-    (λ not_less. let not_a : (e.word == a) ≡ false = grind (arith, nat_tests, h) in rw (not_less, not_a) refl)
-
-pub count_within : (t : Table) (a : ℕ) → count_below t a ≤ length t
-count_within [] a = omega arith
-count_within (e ∷ es) a = if_is (λ n. n ≤ suc (length es)) (nat_lt e.word a) _ _ (λ _. omega (arith, count_within es a)) (λ _. omega arith)
-
--- the same, of the items t that are seen as the table u, at the place n of a
-module _ (t u : Table) (a n : ℕ) (seen : t ≡ u) (place : n ≡ count_below u a) where
-  within : n < length t → count_below u a < length u
-  within lt = subst (λ m. m < length u) place (subst (λ s. n < length s) seen lt)
-
-  stands : (x : Entry) → x ≡ get_or t n x → x ≡ get_or u (count_below u a) x
-  stands x is = subst (λ m. x ≡ get_or u m x) place (subst (λ s. x ≡ get_or s n x) seen is)
-
-  pub place_within : n ≤ length t
-  place_within = subst (λ m. m ≤ length t) (sym place) (subst (λ s. count_below u a ≤ length s) (sym seen) (count_within u a))
-
-  pub seen_at : (x : Entry) → n < length t → x ≡ get_or t n x → x.word ≡ a → look u a ≡ Some x.value
-  seen_at x lt is w = look_at u a x (within lt) (stands x is) w
-
-  pub seen_past_end : length t ≤ n → look u a ≡ None
-  seen_past_end le = look_past_end u a (subst (λ m. length u ≤ m) place (subst (λ s. length s ≤ n) seen le))
-
-  pub seen_other : IsRising t → (x : Entry) → n < length t → x ≡ get_or t n x → x.word ≢ a → look u a ≡ None
-  seen_other r x lt is w = look_at_other u a x (subst IsRising seen r) (within lt) (stands x is) w
-
-  pub set_is_put : (v : ℤ) (x : Entry) → n < length t → x ≡ get_or t n x → x.word ≡ a → slice_set t n (record { word = a; value = v }) ≡ put u a v
-  set_is_put v x lt is w = ap (λ m. slice_set t m (record { word = a; value = v })) place ∙ ap (λ s. slice_set s (count_below u a) (record { word = a; value = v })) seen ∙ sym (put_at u a v x (within lt) (stands x is) w)
-
-  pub insert_is_put : (v : ℤ) → look u a ≡ None → insert t n (record { word = a; value = v }) ≡ put u a v
-  insert_is_put v none = ap (λ m. insert t m (record { word = a; value = v })) place ∙ ap (λ s. insert s (count_below u a) (record { word = a; value = v })) seen ∙ sym (put_new u a v none)
 
 -- the first word of one is no word of the other where that begins above it
 not_below : (e f : Entry) (es fs : Table) → IsRising (f ∷ fs) → look (e ∷ es) e.word ≡ look (f ∷ fs) e.word → f.word ≤ e.word

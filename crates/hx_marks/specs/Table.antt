@@ -1,5 +1,5 @@
 -- A map from words to values: its entries, in rising order of their words.
-use Rattle.std.specs.Prelude.{◌≡◌, ℕ, suc, ℤ, ◌<◌, List, [], ◌∷◌, Option, Some, None, ◌==◌, nat_lt, if◌then◌else◌}
+use Rattle.std.specs.Prelude.{◌≡◌, ℕ, ℤ, ◌<◌, List, [], ◌∷◌, Option, Some, None, ◌==◌, nat_lt, if◌then◌else◌}
 use Rattle.hx_marks.specs.declared.marks.Entry.{Entry}
 
 abbrev pub Table : Type 0
@@ -27,10 +27,11 @@ put (e ∷ es) a v =
     if e.word == a then record { word = a; value = v } ∷ es else
     record { word = a; value = v } ∷ e ∷ es
 
--- how many words at the front are below one
-abbrev pub count_below : Table → ℕ → ℕ
-count_below [] a = 0
-count_below (e ∷ es) a = if nat_lt e.word a then suc (count_below es a) else 0
+-- words and their values, of which there are as many, as a table
+abbrev pub tabled : List ℕ → List ℤ → Table
+tabled [] vs = []
+tabled (w ∷ ws) [] = []
+tabled (w ∷ ws) (v ∷ vs) = record { word = w; value = v } ∷ tabled ws vs
 
 -- each word has the same value in both, or none in both
 abbrev pub HaveSameValues : Table → Table → Type 0

@@ -2,7 +2,9 @@
 //! words at most; `specs/Table.antt` says what such a map is.
 #![tactic(auto)]
 
+pub mod find;
 pub mod laws;
 pub mod marks;
 
+pub use find::find_tag;
 pub use marks::{Entry, Full, Marks};

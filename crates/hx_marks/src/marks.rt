@@ -1,8 +1,10 @@
 // A bounded map from store words to values.
 
-ghost use Rattle.std.specs.Prelude.{◌≡◌, ◌↔◌, ◌≤◌, ◌<◌, [], length, slice_get, Some, None, IfOk, OnOk, OnErr, IsErr, IsTrue};
-ghost use Rattle.hx_marks.specs.Table.{look, put, count_below, IsRising};
+ghost use Rattle.std.specs.Prelude.{◌≡◌, ◌↔◌, ◌≤◌, ◌<◌, [], length, slice_get, Some, None, IfOk, OnOk, OnErr, IsErr, IsTrue, vec_len, vec_capacity};
+ghost use Rattle.std.specs.List.{insert};
+ghost use Rattle.hx_marks.specs.Table.{look, put, IsRising};
 
+use crate::find::search;
 use std::alloc::{AllocError, Global};
 use std::marker::Model;
 use thiserror::Error;
@@ -22,21 +24,24 @@ pub struct Full;
 /// The read marks of one iteration: the words that it has read and not written before, each with the value that it saw
 /// (Hammond, Willey and Olukotun, ASPLOS 1998). Contracts see the entries, in rising order of their words, and how many there
 /// may be.
+///
+/// Words and values stand apart, so that a search goes over words alone.
 #[derive(Drop)]
 pub struct Marks {
-    entries: Vec<Entry>,
+    words: Vec<u32>,
+    values: Vec<i32>,
     capacity: usize,
 }
 
 impl Model for Marks {
-    ghost use Rattle.std.specs.Prelude.{◌≤◌, length, vec_capacity};
-    ghost use Rattle.hx_marks.specs.Table.{MapView, IsRising};
+    ghost use Rattle.std.specs.Prelude.{◌≡◌, ◌≤◌, length, vec_capacity};
+    ghost use Rattle.hx_marks.specs.Table.{MapView, IsRising, tabled};
 
     ghost Value = { MapView };
 
-    ghost view = { λ m. record { entries = m.entries.items; capacity = m.capacity } };
+    ghost view = { λ m. record { entries = tabled m.words.items m.values.items; capacity = m.capacity } };
 
-    ghost invariant = { λ m. IsRising m.entries.items × (length m.entries.items ≤ m.capacity) × (m.capacity ≤ vec_capacity m.entries) };
+    ghost invariant = { λ m. IsRising (tabled m.words.items m.values.items) × (length m.words.items ≡ length m.values.items) × (length m.words.items ≤ m.capacity) × (m.capacity ≤ vec_capacity m.words) × (m.capacity ≤ vec_capacity m.values) };
 }
 
 impl Marks {
@@ -45,7 +50,8 @@ impl Marks {
         ensures { IfOk result (λ m. m ≡ record { entries = []; capacity = capacity }) }
     {
         Ok(Marks {
-            entries: Vec::with_capacity(alloc, capacity)?,
+            words: Vec::with_capacity(alloc, capacity)?,
+            values: Vec::with_capacity(alloc, capacity)?,
             capacity,
         })
     }
@@ -54,15 +60,9 @@ impl Marks {
     pub fn get(&self, word: u32) -> Option<i32>
         ensures { result ≡ look self.now.entries word }
     {
-        let place = self.place(word);
-        if place >= self.entries.len() {
-            return None;
-        }
-        let entry = self.entries[place];
-        if entry.word == word {
-            Some(entry.value)
-        } else {
-            None
+        match search(self.words.as_slice(), word) {
+            Ok(place) => Some(self.values[place]),
+            Err(_) => None,
         }
     }
 
@@ -74,18 +74,17 @@ impl Marks {
         ensures full { IsErr result ↔ ((look self.old.entries word ≡ None) × (self.old.capacity ≤ length self.old.entries)) }
         ensures kept { OnErr result (self.new ≡ self.old) }
     {
-        let place = self.place(word);
-        let entry = Entry { word, value };
-        if place < self.entries.len() && self.entries[place].word == word {
-            self.entries[place] = entry;
-            return Ok(());
-        }
-        if self.entries.len() >= self.capacity {
-            return Err(Full);
-        }
-        match self.entries.insert(place, entry) {
-            Ok(()) => Ok(()),
-            Err(_) => unreachable!(),
+        match search(self.words.as_slice(), word) {
+            Ok(place) => {
+                self.values[place] = value;
+                Ok(())
+            }
+            Err(_) if self.words.len() >= self.capacity => Err(Full),
+            Err(place) => {
+                put_in(&mut self.words, place, word);
+                put_in(&mut self.values, place, value);
+                Ok(())
+            }
         }
     }
 
@@ -93,7 +92,7 @@ impl Marks {
     pub fn len(&self) -> usize
         ensures { result ≡ length self.now.entries }
     {
-        self.entries.as_slice().len()
+        self.words.as_slice().len()
     }
 
     /// The mark at a place, in rising order of the words.
@@ -101,7 +100,10 @@ impl Marks {
         requires { place < length self.now.entries }
         ensures { slice_get self.now.entries place ≡ Some result }
     {
-        self.entries.as_slice()[place]
+        Entry {
+            word: self.words[place],
+            value: self.values[place],
+        }
     }
 
     /// What every table of marks keeps: the words rise, and there are no more than there may be. It does nothing.
@@ -109,37 +111,53 @@ impl Marks {
         ensures rising { IsRising self.now.entries }
         ensures few { length self.now.entries ≤ self.now.capacity }
     {
-        let _entries = &self.entries;
+        let _words = &self.words;
     }
 
     /// Whether both have the same words, each with the same value; how many they may have doesn't count.
     pub fn is_same(&self, other: &Marks) -> bool
         ensures { IsTrue result ↔ (self.now.entries ≡ other.now.entries) }
     {
-        same_entries(&self.entries, &other.entries)
+        same_words(&self.words, &other.words) && same_values(&self.values, &other.values)
     }
 
     /// Forgets all marks, and keeps the room for them.
     pub fn clear(&mut self)
         ensures { self.new ≡ record self.old { entries = [] } }
     {
-        self.entries.clear();
-    }
-
-    // How many marked words are below a word.
-    fn place(&self, word: u32) -> usize
-        ensures { result ≡ count_below self.now.entries word }
-    {
-        let mut place = 0;
-        while place < self.entries.len() && self.entries[place].word < word {
-            place += 1;
-        }
-        place
+        self.words.clear();
+        self.values.clear();
     }
 }
 
-fn same_entries(a: &[Entry], b: &[Entry]) -> bool
+fn same_words(a: &[u32], b: &[u32]) -> bool
     ensures { IsTrue result ↔ (a.now ≡ b.now) }
 {
     a == b
+}
+
+fn same_values(a: &[i32], b: &[i32]) -> bool
+    ensures { IsTrue result ↔ (a.now ≡ b.now) }
+{
+    a == b
+}
+
+// Puts an item at a place of a vector that has room for it.
+fn put_in<T: Copy>(items: &mut Vec<T>, place: usize, item: T)
+    requires within { place ≤ length items.old.items }
+    requires room { vec_len items.old < vec_capacity items.old }
+    ensures items { items.new.items ≡ insert items.old.items place item }
+    ensures capacity { vec_capacity items.old ≤ vec_capacity items.new }
+{
+    match items.push(item) {
+        Ok(()) => {}
+        Err(_) => unreachable!(),
+    }
+    let items = items.as_mut_slice();
+    let mut at = items.len() - 1;
+    while at > place {
+        items[at] = items[at - 1];
+        at -= 1;
+    }
+    items[place] = item;
 }

@@ -1,7 +1,7 @@
 -- The loops of the parser: what is read so far, and what reading goes on to give.
-use Rattle.std.proofs.Common.{◌≡◌, ℕ, zero, suc, ◌+◌, ◌-◌, ◌<◌, ◌≤◌, max, true, false, List, [], ◌∷◌, ◌++◌, length, Some, None, Result, Ok, Err, refl, sym, ap, subst, ◌∙◌, arith, append_assoc}
-use Rattle.std.specs.Prelude.{nat_lt}
-use Rattle.std.proofs.lemmas.Bool.{lt-ltb, le-ltb}
+use Rattle.std.proofs.Common.{◌≡◌, ℕ, zero, suc, ◌+◌, ◌-◌, ◌<◌, ◌≤◌, max, Bool, true, false, cond, List, [], ◌∷◌, ◌++◌, length, Option, Some, None, Result, Ok, Err, refl, sym, ap, subst, ◌∙◌, arith, append_assoc}
+use Rattle.std.specs.Prelude.{nat_lt, nat_le}
+use Rattle.std.proofs.lemmas.Bool.{lt-ltb, le-ltb, le-leb, lt-leb}
 use Rattle.hx_tree.specs.declared.token.Pos.{Pos}
 use Rattle.hx_tree.specs.declared.token.Mark.{Mark}
 use Rattle.hx_tree.specs.declared.token.Mark.TheVariants as mark
@@ -11,7 +11,7 @@ use Rattle.hx_tree.specs.Grammar.{layer}
 use Rattle.hx_tree.specs.Tree.{Expr, Binary, exprs}
 use Rattle.hx_tree.specs.Height.{height, heights}
 use Rattle.hx_grammar.specs.Reading as reading
-use Rattle.hx_grammar.specs.Reading.{◌>>=◌, Reading, Reader, Refusal, behind, Turn, Further, Ends, at_comma, until, until_end, turned, many, all_of, listed, listed_from, operator_at, Below, arguments_at, expect, operand_at, chain, expr_at}
+use Rattle.hx_grammar.specs.Reading.{◌>>=◌, Reading, Reader, Refusal, behind, Turn, Further, Ends, at_comma, until, until_end, turned, many, all_of, listed, listed_from, operator_at, Below, arguments_at, expect, operand_at, chain, chained_at, arms_at, question_at, choice_turn, expr_at}
 use Rattle.hx_parse.specs.declared.error.ParseError.{ParseError}
 use Rattle.hx_parse.specs.declared.error.ParseError.TheVariants.{Syntax, TooDeep, Memory}
 use Rattle.hx_parse.specs.Gives.{Fails}
@@ -148,18 +148,18 @@ pub no_arguments : (below : Below) (from rest : List Token) → behind mark.Clos
 unfolding arguments_at
 no_arguments below from rest at = rw at refl
 
-pub arguments_are : (below : Below) (from mid to : List Token) (es : List Expr) → behind mark.CloseParen from ≡ None → listed (below 10) from ≡ Ok (es, mid) → expect mark.CloseParen mid ≡ Ok to
+pub arguments_are : (below : Below) (from mid to : List Token) (es : List Expr) → behind mark.CloseParen from ≡ None → listed (below 11) from ≡ Ok (es, mid) → expect mark.CloseParen mid ≡ Ok to
     → arguments_at below from ≡ Ok (es, to)
 unfolding arguments_at
 arguments_are below from mid to es at h i = rw (at, h, i) refl
 
-pub arguments_fail : (f : ParseError) (below : Below) (from : List Token) → behind mark.CloseParen from ≡ None → Fails f (listed (below 10) from) → Fails f (arguments_at below from)
+pub arguments_fail : (f : ParseError) (below : Below) (from : List Token) → behind mark.CloseParen from ≡ None → Fails f (listed (below 11) from) → Fails f (arguments_at below from)
 unfolding arguments_at
 arguments_fail Memory below from at h = tt
 arguments_fail TooDeep below from at h = rw (at, h) refl
 arguments_fail (Syntax pos) below from at h = rw (at, h) refl
 
-pub arguments_stay_open : (f : ParseError) (below : Below) (from mid : List Token) (es : List Expr) → behind mark.CloseParen from ≡ None → listed (below 10) from ≡ Ok (es, mid)
+pub arguments_stay_open : (f : ParseError) (below : Below) (from mid : List Token) (es : List Expr) → behind mark.CloseParen from ≡ None → listed (below 11) from ≡ Ok (es, mid)
     → Fails f (expect mark.CloseParen mid) → Fails f (arguments_at below from)
 unfolding arguments_at
 arguments_stay_open Memory below from mid es at h i = tt
@@ -172,30 +172,17 @@ arguments_stay_open (Syntax pos) below from mid es at h i = rw (at, h, i) refl
 pub record Chained (room k : ℕ) (from : List Token) (left : Expr) (tokens : List Token) : Type 0 where
   pub fuel : ℕ
   pub enough : room ≤ fuel + height left
-  pub reads : chain (expr_at (room - 1)) fuel room k left tokens ≡ expr_at room k from
+  pub reads : chain (expr_at (room - 1)) fuel room k left tokens ≡ chained_at (expr_at (room - 1)) room k from
 
-pub chain_begins : (room k : ℕ) (from tokens : List Token) (left : Expr) → 0 < room → operand_at (expr_at (room - 1)) from ≡ Ok (left, tokens) → Chained room k from left tokens
-unfolding expr_at
-chain_begins zero k from tokens left pos h = absurd (omega arith)
-chain_begins (suc n) k from tokens left pos h =
-    let e : suc n - 1 ≡ n = omega arith in
-    let h' : operand_at (expr_at n) from ≡ Ok (left, tokens) = subst (λ (i : ℕ). operand_at (expr_at i) from ≡ Ok (left, tokens)) e h in
-    record { fuel = suc n; enough = omega arith; reads = rw (e, h') refl }
+pub chain_begins : (room k : ℕ) (from tokens : List Token) (left : Expr) → operand_at (expr_at (room - 1)) from ≡ Ok (left, tokens) → Chained room k from left tokens
+unfolding chained_at
+chain_begins room k from tokens left h = record { fuel = room; enough = omega arith; reads = rw h refl }
 
-pub chain_no_operand : (f : ParseError) (room k : ℕ) (from : List Token) → 0 < room → Fails f (operand_at (expr_at (room - 1)) from) → Fails f (expr_at room k from)
-unfolding expr_at
-chain_no_operand f zero k from pos h = absurd (omega arith)
-chain_no_operand Memory (suc n) k from pos h = tt
-chain_no_operand TooDeep (suc n) k from pos h =
-    let e : suc n - 1 ≡ n = omega arith in
-    let h' : operand_at (expr_at n) from ≡ Err reading.TooDeep = subst (λ (i : ℕ). operand_at (expr_at i) from ≡ Err reading.TooDeep) e h in
-    rw h' refl
-chain_no_operand (Syntax p) (suc n) k from pos h =
-    let e : suc n - 1 ≡ n = omega arith in
-    let h' : operand_at (expr_at n) from ≡ Err reading.Syntax = subst (λ (i : ℕ). operand_at (expr_at i) from ≡ Err reading.Syntax) e h in
-    rw h' refl
+pub chain_no_operand : (f : ParseError) (room k : ℕ) (from : List Token) → Fails f (operand_at (expr_at (room - 1)) from) → Fails f (chained_at (expr_at (room - 1)) room k from)
+unfolding chained_at
+chain_no_operand f room k from h = fails_then f (operand_at (expr_at (room - 1)) from) (λ left. chain (expr_at (room - 1)) room room k left.0 left.1) h
 
-pub chain_ends : (room k : ℕ) (from tokens : List Token) (left : Expr) → Chained room k from left tokens → operator_at k tokens ≡ None → expr_at room k from ≡ Ok (left, tokens)
+pub chain_ends : (room k : ℕ) (from tokens : List Token) (left : Expr) → Chained room k from left tokens → operator_at k tokens ≡ None → chained_at (expr_at (room - 1)) room k from ≡ Ok (left, tokens)
 unfolding chain
 chain_ends room k from tokens left so_far none = sym (so_far.reads) ∙ ends so_far.fuel
   where
@@ -204,7 +191,7 @@ chain_ends room k from tokens left so_far none = sym (so_far.reads) ∙ ends so_
     ends (suc m) = rw none refl
 
 pub chain_too_deep : (room k : ℕ) (from tokens rest : List Token) (left : Expr) (o : BinaryOp) (p : Pos) → Chained room k from left tokens → operator_at k tokens ≡ Some (o, p, rest)
-    → room ≤ height left → expr_at room k from ≡ Err reading.TooDeep
+    → room ≤ height left → chained_at (expr_at (room - 1)) room k from ≡ Err reading.TooDeep
 unfolding chain
 chain_too_deep room k from tokens rest left o p so_far at le = sym (so_far.reads) ∙ ends so_far.fuel
   where
@@ -223,14 +210,14 @@ chain_goes_on room k from tokens rest to left right o p so_far at lt h = go so_f
     low : nat_lt (height left) room ≡ true
     low = lt-ltb (height left) room lt
 
-    go : (fuel : ℕ) → room ≤ fuel + height left → chain (expr_at (room - 1)) fuel room k left tokens ≡ expr_at room k from → Chained room k from (Binary o p left right) to
+    go : (fuel : ℕ) → room ≤ fuel + height left → chain (expr_at (room - 1)) fuel room k left tokens ≡ chained_at (expr_at (room - 1)) room k from → Chained room k from (Binary o p left right) to
     go zero le e = absurd (omega arith)
     go (suc m) le e =
         let one : chain (expr_at (room - 1)) (suc m) room k left tokens ≡ chain (expr_at (room - 1)) m room k (Binary o p left right) to = rw (at, low, h) refl in
         record { fuel = m; enough = omega arith; reads = sym one ∙ e }
 
 pub chain_no_right : (f : ParseError) (room k : ℕ) (from tokens rest : List Token) (left : Expr) (o : BinaryOp) (p : Pos) → Chained room k from left tokens → operator_at k tokens ≡ Some (o, p, rest)
-    → height left < room → Fails f (expr_at (room - 1) (layer o - 1) rest) → Fails f (expr_at room k from)
+    → height left < room → Fails f (expr_at (room - 1) (layer o - 1) rest) → Fails f (chained_at (expr_at (room - 1)) room k from)
 unfolding chain
 chain_no_right Memory room k from tokens rest left o p so_far at lt h = tt
 chain_no_right TooDeep room k from tokens rest left o p so_far at lt h = sym (so_far.reads) ∙ go so_far.fuel so_far.enough
@@ -249,6 +236,52 @@ chain_no_right (Syntax q) room k from tokens rest left o p so_far at lt h = sym 
     go : (fuel : ℕ) → room ≤ fuel + height left → chain (expr_at (room - 1)) fuel room k left tokens ≡ Err reading.Syntax
     go zero le = absurd (omega arith)
     go (suc m) le = rw (at, low, h) refl
+
+-- ---- the conditional operator
+
+pub no_room : (k : ℕ) (from : List Token) → expr_at 0 k from ≡ Err reading.TooDeep
+unfolding expr_at
+no_room k from = refl
+
+expr_is : (room k : ℕ) (from : List Token) → 0 < room
+    → expr_at room k from ≡ (chained_at (expr_at (room - 1)) room k from >>= λ test. choice_turn (expr_at (room - 1)) room test.0 test.1 (question_at k test.1))
+unfolding expr_at
+expr_is zero k from pos = absurd (omega arith)
+expr_is (suc n) k from pos = let e : suc n - 1 ≡ n = omega arith in rw e refl
+
+pub no_test : (f : ParseError) (room k : ℕ) (from : List Token) → 0 < room → Fails f (chained_at (expr_at (room - 1)) room k from) → Fails f (expr_at room k from)
+no_test f room k from pos h =
+    rw (expr_is room k from pos)
+    (fails_then f (chained_at (expr_at (room - 1)) room k from) (λ test. choice_turn (expr_at (room - 1)) room test.0 test.1 (question_at k test.1)) h)
+
+pub no_choice : (room k : ℕ) (from to : List Token) (test : Expr) → 0 < room → chained_at (expr_at (room - 1)) room k from ≡ Ok (test, to) → k < 11 → expr_at room k from ≡ Ok (test, to)
+unfolding question_at
+no_choice room k from to test pos h low = let below : nat_le 11 k ≡ false = lt-leb 11 k low in rw (expr_is room k from pos, h, below) refl
+
+pub no_question : (room k : ℕ) (from to : List Token) (test : Expr) → 0 < room → chained_at (expr_at (room - 1)) room k from ≡ Ok (test, to) → behind mark.Question to ≡ None
+    → expr_at room k from ≡ Ok (test, to)
+unfolding question_at
+no_question room k from to test pos h none = rw (expr_is room k from pos, h, none) (go (nat_le 11 k))
+  where
+    go : (b : Bool) → choice_turn (expr_at (room - 1)) room test to (cond {A = Option (List Token)} b None None) ≡ Ok (test, to)
+    go true = refl
+    go false = refl
+
+pub test_too_high : (room k : ℕ) (from mid rest : List Token) (test : Expr) → 0 < room → chained_at (expr_at (room - 1)) room k from ≡ Ok (test, mid) → 11 ≤ k
+    → behind mark.Question mid ≡ Some rest → room ≤ height test → expr_at room k from ≡ Err reading.TooDeep
+unfolding question_at
+test_too_high room k from mid rest test pos h le at high =
+    let all : nat_le 11 k ≡ true = le-leb 11 k le in
+    let above : nat_lt (height test) room ≡ false = le-ltb (height test) room high in
+    rw (expr_is room k from pos, h, all, at, above) refl
+
+pub choice_is : (room k : ℕ) (from mid rest : List Token) (test : Expr) → 0 < room → chained_at (expr_at (room - 1)) room k from ≡ Ok (test, mid) → 11 ≤ k
+    → behind mark.Question mid ≡ Some rest → height test < room → expr_at room k from ≡ arms_at (expr_at (room - 1)) test rest
+unfolding question_at
+choice_is room k from mid rest test pos h le at low =
+    let all : nat_le 11 k ≡ true = le-leb 11 k le in
+    let fits : nat_lt (height test) room ≡ true = lt-ltb (height test) room low in
+    rw (expr_is room k from pos, h, all, at, fits) refl
 
 pub heights-push : (es : List Expr) (e : Expr) → heights (exprs (es ++ e ∷ [])) ≡ max (heights (exprs es)) (height e)
 heights-push [] e = omega arith

@@ -1,10 +1,10 @@
 // Expressions: operands, and the operators between them by their layers.
 
-ghost use Rattle.std.specs.Prelude.{◌≡◌, ◌<◌, ◌≤◌, ◌+◌, map, length, suc, max, IfOk, OnOk};
+ghost use Rattle.std.specs.Prelude.{◌≡◌, ◌<◌, ◌≤◌, ◌+◌, ◌-◌, map, length, suc, max, IfOk, OnOk};
 ghost use Rattle.hx_tree.specs.Tree as tree;
 ghost use Rattle.hx_tree.specs.View.{expr_of};
 ghost use Rattle.hx_tree.specs.Height.{height, heights};
-ghost use Rattle.hx_grammar.specs.Reading.{expr_at, operand_at, named_at, marked_at, unary_at, arguments_at};
+ghost use Rattle.hx_grammar.specs.Reading.{expr_at, chained_at, arms_at, operand_at, named_at, marked_at, unary_at, arguments_at};
 ghost use Rattle.hx_parse.specs.Gives.{Gives, name_in};
 
 use crate::error::ParseError;
@@ -33,7 +33,7 @@ struct Arguments {
 impl<'t, 's> Parser<'t, 's> {
     /// An expression of height at most `room`.
     pub(crate) fn expression(&mut self, room: usize) -> Result<Expr, ParseError>
-        ensures read { Gives expr_of result self.new (expr_at room 10 self.old) }
+        ensures read { Gives expr_of result self.new (expr_at room 11 self.old) }
         ensures shorter { OnOk result (length self.new < length self.old) }
     {
         let all = self.expr(ALL, room)?;
@@ -59,6 +59,24 @@ impl<'t, 's> Parser<'t, 's> {
         if room == 0 {
             return Err(ParseError::TooDeep);
         }
+        let test = self.chained(layer, room)?;
+        if layer < ALL || !self.take(Mark::Question) {
+            return Ok(test);
+        }
+        if test.height == room {
+            return Err(ParseError::TooDeep);
+        }
+        self.arms(test, room - 1)
+    }
+
+    /// Operands and the operators of layers up to this between them, of height at most `room`.
+    #[cycle(expr)]
+    fn chained(&mut self, layer: u8, room: usize) -> Result<Measured, ParseError>
+        requires room { 0 < room }
+        ensures read { Gives (λ s. expr_of s.expr) result self.new (chained_at (expr_at (room - 1)) room layer self.old) }
+        ensures height { IfOk result (λ s. (s.height ≡ height (expr_of s.expr)) × (s.height ≤ room)) }
+        ensures shorter { OnOk result (length self.new < length self.old) }
+    {
         let mut left = self.operand(room - 1)?;
         while let Some((op, pos)) = self.take_operator(layer) {
             if left.height == room {
@@ -68,6 +86,22 @@ impl<'t, 's> Parser<'t, 's> {
             left = binary(self.alloc, op, pos, left, right)?;
         }
         Ok(left)
+    }
+
+    /// What stands behind a test and its `?`, which are taken: two expressions of height at most `room`, and all as one.
+    #[cycle(expr)]
+    #[tactic(auto, unfolding(hx_grammar::specs::Reading::arms_at))]
+    fn arms(&mut self, test: Measured, room: usize) -> Result<Measured, ParseError>
+        requires test { (test.height ≡ height (expr_of test.expr)) × (test.height ≤ room) }
+        requires room { room < usize.MAX }
+        ensures read { Gives (λ s. expr_of s.expr) result self.new (arms_at (expr_at room) (expr_of test.expr) self.old) }
+        ensures height { IfOk result (λ s. (s.height ≡ height (expr_of s.expr)) × (s.height ≤ room + 1)) }
+        ensures shorter { OnOk result (length self.new < length self.old) }
+    {
+        let chosen = self.expr(ALL, room)?;
+        self.expect(Mark::Colon)?;
+        let other = self.expr(ALL, room)?;
+        Ok(conditional(self.alloc, test, chosen, other)?)
     }
 
     /// An operand, whose parts have height at most `room`.
@@ -186,6 +220,29 @@ impl<'t, 's> Parser<'t, 's> {
         self.expect(Mark::CloseParen)?;
         Ok(Arguments { all, height })
     }
+}
+
+/// A test, and what is chosen where it isn't 0 and where it is.
+fn conditional(
+    alloc: Global,
+    test: Measured,
+    chosen: Measured,
+    other: Measured,
+) -> Result<Measured, AllocError>
+    requires test { test.height < usize.MAX }
+    requires chosen { chosen.height < usize.MAX }
+    requires other { other.height < usize.MAX }
+    ensures tree { IfOk result (λ s. expr_of s.expr ≡ tree.Conditional (expr_of test.expr) (expr_of chosen.expr) (expr_of other.expr)) }
+    ensures height { IfOk result (λ s. s.height ≡ suc (max test.height (max chosen.height other.height))) }
+{
+    Ok(Measured {
+        height: test.height.max(chosen.height.max(other.height)) + 1,
+        expr: Expr::Conditional(
+            Box::new(alloc, test.expr)?,
+            Box::new(alloc, chosen.expr)?,
+            Box::new(alloc, other.expr)?,
+        ),
+    })
 }
 
 /// An operator between two operands.

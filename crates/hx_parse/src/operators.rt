@@ -10,8 +10,8 @@ use hx_tree::tree::{BinaryOp, Operator};
 /// The layer of operands.
 pub(crate) const OPERANDS: u8 = 0;
 
-/// The layer of all expressions.
-pub(crate) const ALL: u8 = 10;
+/// The layer of all expressions, that of the conditional operator.
+pub(crate) const ALL: u8 = 11;
 
 /// The operator between two operands that a mark is.
 pub(crate) fn binary_of(mark: Mark) -> Option<BinaryOp>

@@ -3,7 +3,7 @@
 ghost use Rattle.std.specs.Prelude.{◌≡◌, ◌<◌, ◌≤◌, map, length, option_map, OnOk, Some, None};
 ghost use Rattle.hx_tree.specs.declared.token.Mark.TheVariants as mark;
 ghost use Rattle.hx_tree.specs.View.{name_of, expr_of, local_of, place_of, assignment_of, init_of, for_clauses_of, stmt_of, part_of};
-ghost use Rattle.hx_grammar.specs.Reading.{expr_at, in_parens_at, optional_at, local_at, locals_at, place_at, update_at, updated_at, assigned_at, assignment_at, init_turn, init_at, for_clauses_at, part_at, parts_at, named_stmt_turn, named_stmt_at, print_at, emit_at, break_at, continue_at, return_at, if_at, else_at, while_at, for_at, marked_stmt_at, stmt_with, stmt_at};
+ghost use Rattle.hx_grammar.specs.Reading.{expr_at, in_parens_at, optional_at, local_at, locals_at, place_at, update_at, updated_at, assigned_at, assignment_at, init_turn, init_at, for_clauses_at, part_at, parts_at, named_stmt_turn, named_stmt_at, print_at, emit_at, break_at, continue_at, return_at, if_at, else_at, while_at, do_at, for_at, marked_stmt_at, stmt_with, stmt_at};
 ghost use Rattle.hx_parse.specs.Gives.{Gives, name_in};
 
 use crate::error::{ParseError, both};
@@ -152,7 +152,7 @@ impl<'t, 's> Parser<'t, 's> {
     /// An expression, if one is there, and the `;` behind it.
     #[tactic(auto, unfolding(hx_grammar::specs::Reading::optional_at), using(crate::proofs::Marks::behind_shorter))]
     fn optional_expression(&mut self, room: usize) -> Result<Option<Expr>, ParseError>
-        ensures read { Gives (λ e. option_map expr_of e) result self.new (optional_at mark.Semicolon (expr_at room 10) self.old) }
+        ensures read { Gives (λ e. option_map expr_of e) result self.new (optional_at mark.Semicolon (expr_at room 11) self.old) }
         ensures shorter { OnOk result (length self.new < length self.old) }
     {
         if self.take(Mark::Semicolon) {
@@ -363,6 +363,7 @@ impl<'t, 's> Parser<'t, 's> {
             Mark::If => self.choice(room),
             Mark::While => self.while_loop(false, room),
             Mark::MarkedWhile => self.while_loop(true, room),
+            Mark::Do => self.do_loop(room),
             Mark::For => self.for_loop(false, room),
             Mark::MarkedFor => self.for_loop(true, room),
             Mark::Break => self.break_statement(pos),
@@ -443,6 +444,20 @@ impl<'t, 's> Parser<'t, 's> {
         let test = self.in_parens(room)?;
         let (test, body) = both(test, self.body(room))?;
         Ok(Stmt::While(is_marked, test, body))
+    }
+
+    /// What stands behind a `do`.
+    #[cycle(stmt)]
+    #[tactic(auto, unfolding(hx_grammar::specs::Reading::do_at))]
+    fn do_loop(&mut self, room: usize) -> Result<Stmt, ParseError>
+        ensures read { Gives stmt_of result self.new (do_at room (stmt_at room) self.old) }
+        ensures shorter { OnOk result (length self.new ≤ length self.old) }
+    {
+        let body = self.body(room)?;
+        let (body, _) = both(body, self.expect(Mark::While))?;
+        let body_and_test = both(body, self.in_parens(room))?;
+        let ((body, test), _) = both(body_and_test, self.expect(Mark::Semicolon))?;
+        Ok(Stmt::DoWhile(body, test))
     }
 
     /// What stands behind a `for` or a `pfor`.

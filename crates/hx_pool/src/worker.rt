@@ -11,13 +11,15 @@ use hx_board::{Alive, Head, Headed, Loaded, Settled, Started, Stored};
 use hx_frame::{Frame, Stop};
 use hx_tree::limits::STRETCH_LIMIT;
 use std::sync::Wait;
-use std::thread;
+use std::{hint, thread};
 
 /// What a worker does next.
 #[derive(Clone, Copy, PartialEq, Eq, Debug)]
 enum Next {
     /// It goes on with its iteration.
     Goes,
+    /// It waits with its iteration until it is the head.
+    Waits,
     /// It has no iteration any more.
     Idle,
     /// The region has ended.
@@ -65,6 +67,18 @@ pub fn work<S: Shared, G: Gate, W: Wait>(
     unreachable!()
 }
 
+/// So many times in a row a worker that waits for the head makes its pause longer.
+const LONGEST_PAUSE: u32 = 8;
+
+/// Lets others run before the head is asked for again, the longer the more often that was in vain: who asks takes the lock, which those
+/// want who have work to do.
+fn pause(waits: u32) {
+    for _ in 0..16 * LONGEST_PAUSE.min(waits) {
+        hint::spin_loop();
+    }
+    thread::yield_now();
+}
+
 /// As many words as one stretch has, but for those that ask for more than the frame has.
 fn run_stretch(frame: &mut Frame<'_>) -> Stop
     ensures stays { StaysOwn frame.old frame.new }
@@ -83,16 +97,23 @@ impl<S: Shared, G: Gate, W: Wait> Hand<'_, S, G, W> {
         ensures { StaysOwn frame.old frame.new }
     {
         let mut head: Option<Head> = None;
+        let mut waits = 0;
         for _ in self.rt.forever() {
             let (next, kept) = self.step(frame, head);
-            if next == Next::Goes {
-                head = kept;
-            } else {
-                if let Some(held) = kept {
-                    self.spend(frame, held);
+            match next {
+                Next::Goes => waits = 0,
+                Next::Waits => {
+                    pause(waits);
+                    waits = LONGEST_PAUSE.min(waits) + 1;
                 }
-                return next;
+                Next::Idle | Next::Over => {
+                    if let Some(held) = kept {
+                        self.spend(frame, held);
+                    }
+                    return next;
+                }
             }
+            head = kept;
         }
         unreachable!()
     }
@@ -183,7 +204,7 @@ impl<S: Shared, G: Gate, W: Wait> Hand<'_, S, G, W> {
         }
     }
 
-    // Asks for the right to settle; where another has it, or is the head, it lets others run first.
+    // Asks for the right to settle.
     fn ask(&self, frame: &Frame<'_>) -> (Next, Option<Head>) {
         self.tells(frame, Point::BeforeCall(Call::Head));
         let attempt = frame.tagged().attempt;
@@ -191,10 +212,7 @@ impl<S: Shared, G: Gate, W: Wait> Hand<'_, S, G, W> {
         self.tells(frame, Point::AfterCall(Call::Head));
         match headed {
             Headed::Yours(head) => (Next::Goes, Some(head)),
-            Headed::NotYet => {
-                thread::yield_now();
-                (Next::Goes, None)
-            }
+            Headed::NotYet => (Next::Waits, None),
             Headed::Squashed => (Next::Idle, None),
             Headed::Ended => (Next::Over, None),
         }

@@ -1,16 +1,19 @@
 -- What is written in two parts, and what an execution makes of what its parts answer.
-use Rattle.std.proofs.Common.{◌≡◌, ℕ, ◌+◌, ℤ, Bool, List, ◌++◌, length, take, min, Option, None, Some, Result, Ok, Err, IfOk, IfErr, OnErr, refl, sym, ap, subst, ◌∙◌, append_assoc, arith}
+use Rattle.std.proofs.Common.{◌≡◌, ℕ, ◌+◌, ℤ, List, ◌++◌, length, take, min, Option, None, Some, Result, Ok, Err, IfOk, IfErr, OnOk, OnErr, refl, sym, subst, ◌∙◌, append_assoc, arith}
 use Rattle.std.proofs.lemmas.List.{take-append-le, take_min}
 use Rattle.std.proofs.Math.Seq.{take-append-add}
 use Rattle.std.specs.Io.KnownBytes.{Appends}
 use Rattle.hx_tree.specs.declared.outcome.Finish.{Finish}
+use Rattle.hx_tree.specs.Tree.{Program}
+use Rattle.hx_stats.specs.Globals.{globals_text}
+use Rattle.hx_run.specs.Sources.{IsSourceOf, IsSpelledAlone}
 use Rattle.hx_run.specs.declared.executing.Mode.{Mode}
 use Rattle.hx_run.specs.declared.executing.Done.{Done}
 use Rattle.hx_run.specs.declared.executing.Done.TheVariants.{Finished, NotEnded}
 use Rattle.hx_run.specs.declared.refusal.Refusal.{Refusal}
 use Rattle.hx_run.specs.declared.refusal.Refusal.TheVariants as refusal
 use Rattle.hx_run.specs.Headline.{IsFinishOf, RefusesRun}
-use Rattle.hx_run.specs.Executions.{failed_read, failed_write, has_stats, told, IsDone, IsOfReading, IsReadOf, IsShown, Refuses, RefusesToShow}
+use Rattle.hx_run.specs.Executions.{failed_read, failed_write, asked_tail, IsInTime, IsDone, IsOfReading, IsReadOf, IsShown, Refuses, RefusesToShow}
 
 -- ---- one text behind another
 
@@ -116,32 +119,44 @@ run_writes_nothing bytes input refusal.InputText h = refl
 -- ---- a finish that is shown
 
 is_done : (mode : Mode) (input : List ℤ) (source rest old new : Option (List ℕ)) (bytes : List ℕ) (f : Finish) (d : Done) → IsReadOf source rest bytes
-    → IsFinishOf bytes input f → IsShown (has_stats mode) f old new d → IsDone mode input source rest old new d
-is_done mode input source rest old new bytes f (Finished e) is finish h =
-    record { bytes = bytes; is_read = is; says = record { finish = f; is_finish = finish; ends = h.0; writes = h.1 } }
-is_done mode input source rest old new bytes f NotEnded is finish h = absurd h
+    → (finish : IsFinishOf bytes input f) → IsInTime mode bytes input f → IsShown (asked_tail mode) finish.program f old new d → IsDone mode input source rest old new d
+is_done mode input source rest old new bytes f (Finished e) is finish in_time h =
+    record { bytes = bytes; is_read = is; says = record { finish = f; is_finish = finish; in_time = in_time; ends = h.0; writes = h.1 } }
+is_done mode input source rest old new bytes f NotEnded is finish in_time h = absurd h
 
 pub done_if_ok : (mode : Mode) (input : List ℤ) (source rest old new : Option (List ℕ)) (bytes : List ℕ) (f : Finish) (r : Result Done Refusal) → IsReadOf source rest bytes
-    → IsFinishOf bytes input f → IfOk r (IsShown (has_stats mode) f old new) → IfOk r (IsDone mode input source rest old new)
-done_if_ok mode input source rest old new bytes f (Ok d) is finish h = is_done mode input source rest old new bytes f d is finish h
-done_if_ok mode input source rest old new bytes f (Err e) is finish h = tt
+    → IsFinishOf bytes input f → IsInTime mode bytes input f → IfOk r (λ d. (p : Program) → IsSourceOf bytes p → IsShown (asked_tail mode) p f old new d)
+    → IfOk r (IsDone mode input source rest old new)
+done_if_ok mode input source rest old new bytes f (Ok d) is finish in_time h =
+    is_done mode input source rest old new bytes f d is finish in_time (h finish.program finish.is_source)
+done_if_ok mode input source rest old new bytes f (Err e) is finish in_time h = tt
 
 show_refuses : (mode : Mode) (input : List ℤ) (source rest old new : Option (List ℕ)) (bytes : List ℕ) (f : Finish) (e : Refusal) → IsReadOf source rest bytes
-    → IsFinishOf bytes input f → RefusesToShow (has_stats mode) f old new e → Refuses mode input source rest old new e
-show_refuses mode input source rest old new bytes f refusal.WriteFailed is finish h =
-    record { bytes = bytes; is_read = is; says = record { finish = f; is_finish = finish; count = h.0; writes = h.1 } }
-show_refuses mode input source rest old new bytes f refusal.Memory is finish h = h
-show_refuses mode input source rest old new bytes f (refusal.Lex e) is finish h = absurd h
-show_refuses mode input source rest old new bytes f (refusal.Parse e) is finish h = absurd h
-show_refuses mode input source rest old new bytes f (refusal.Check e) is finish h = absurd h
-show_refuses mode input source rest old new bytes f (refusal.Lower e) is finish h = absurd h
-show_refuses mode input source rest old new bytes f refusal.Pool is finish h = absurd h
-show_refuses mode input source rest old new bytes f refusal.Settings is finish h = absurd h
-show_refuses mode input source rest old new bytes f refusal.InputTooLong is finish h = absurd h
-show_refuses mode input source rest old new bytes f refusal.ReadFailed is finish h = absurd h
-show_refuses mode input source rest old new bytes f refusal.InputText is finish h = absurd h
+    → (finish : IsFinishOf bytes input f) → IsInTime mode bytes input f → RefusesToShow (asked_tail mode) finish.program f old new e → Refuses mode input source rest old new e
+show_refuses mode input source rest old new bytes f refusal.WriteFailed is finish in_time h =
+    record { bytes = bytes; is_read = is; says = record { finish = f; is_finish = finish; in_time = in_time; count = h.0; writes = h.1 } }
+show_refuses mode input source rest old new bytes f refusal.Memory is finish in_time h = h
+show_refuses mode input source rest old new bytes f (refusal.Lex e) is finish in_time h = absurd h
+show_refuses mode input source rest old new bytes f (refusal.Parse e) is finish in_time h = absurd h
+show_refuses mode input source rest old new bytes f (refusal.Check e) is finish in_time h = absurd h
+show_refuses mode input source rest old new bytes f (refusal.Lower e) is finish in_time h = absurd h
+show_refuses mode input source rest old new bytes f refusal.Pool is finish in_time h = absurd h
+show_refuses mode input source rest old new bytes f refusal.Settings is finish in_time h = absurd h
+show_refuses mode input source rest old new bytes f refusal.InputTooLong is finish in_time h = absurd h
+show_refuses mode input source rest old new bytes f refusal.ReadFailed is finish in_time h = absurd h
+show_refuses mode input source rest old new bytes f refusal.InputText is finish in_time h = absurd h
 
 pub refused_if_err : (mode : Mode) (input : List ℤ) (source rest old new : Option (List ℕ)) (bytes : List ℕ) (f : Finish) (r : Result Done Refusal) → IsReadOf source rest bytes
-    → IsFinishOf bytes input f → IfErr r (RefusesToShow (has_stats mode) f old new) → IfErr r (Refuses mode input source rest old new)
-refused_if_err mode input source rest old new bytes f (Ok d) is finish h = tt
-refused_if_err mode input source rest old new bytes f (Err e) is finish h = show_refuses mode input source rest old new bytes f e is finish h
+    → IsFinishOf bytes input f → IsInTime mode bytes input f → IfErr r (λ e. (p : Program) → IsSourceOf bytes p → RefusesToShow (asked_tail mode) p f old new e)
+    → IfErr r (Refuses mode input source rest old new)
+refused_if_err mode input source rest old new bytes f (Ok d) is finish in_time h = tt
+refused_if_err mode input source rest old new bytes f (Err e) is finish in_time h =
+    show_refuses mode input source rest old new bytes f e is finish in_time (h finish.program finish.is_source)
+
+-- ---- what is written behind a text
+
+-- of the one program that a source spells, it is that of any program of the source
+pub globals_of_any : {E : Type 0} (r : Result Unit E) (source : List ℕ) (q : Program) (words : List ℤ) (old new : List ℕ) → IsSpelledAlone source q
+    → OnOk r (new ≡ old ++ globals_text q words) → OnOk r ((p : Program) → IsSourceOf source p → new ≡ old ++ globals_text p words)
+globals_of_any (Ok x) source q words old new alone is = λ p of. subst (λ p. new ≡ old ++ globals_text p words) (sym (alone.only p of.spells)) is
+globals_of_any (Err e) source q words old new alone is = tt

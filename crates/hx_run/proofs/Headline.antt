@@ -54,7 +54,8 @@ is_finish source input code f numbers of fits_code (n, so) =
 
 pub plain_ran : (source : List ℕ) (input : List ℤ) (code : CodeView) (steps : ℕ) (ran : PlainRan) → All (FitsSigned w32) input → IsCodeOf source code → machine.InputFits code input
     → PlainlySo code input steps ran → IsPlainRanOf source input steps ran
-plain_ran source input code steps (Ended f) numbers of fits h = is_finish source input code f numbers of fits (steps, plainly_so code (after code input steps) f h)
+plain_ran source input code steps (Ended f) numbers of fits h =
+    (is_finish source input code f numbers of fits (steps, plainly_so code (after code input steps) f h), (code, of, h))
 plain_ran source input code steps More numbers of fits h = (code, of, h)
 
 pub is_too_long : (source : List ℕ) (input : List ℤ) (code : CodeView) → IsCodeOf source code → (machine.InputFits code input → ⊥) → IsTooLong source input

@@ -13,7 +13,7 @@ use Rattle.hx_run.specs.declared.running.PlainRan.{PlainRan}
 use Rattle.hx_run.specs.declared.running.PlainRan.TheVariants.{Ended, More}
 use Rattle.hx_run.specs.Sources.{IsSourceOf}
 use Rattle.hx_run.specs.Refusals.{RefusesSource}
-use Rattle.hx_run.specs.Runs.{after}
+use Rattle.hx_run.specs.Runs.{after, EndsAs}
 
 -- the printed text, the final globals and the end are those of the program of the source, and so are the whole turns, as far
 -- as 64 bits count them
@@ -46,9 +46,13 @@ pub record IsTooLong (source : List ℕ) (input : List ℤ) : Type 0 where
   pub is_source : IsSourceOf source program
   pub unfit : InputFits program input → ⊥
 
--- so many words of a run: its finish, where it is over; and where it isn't, code of the source has not ended after them
+-- code of the source has ended after so many words, with this outcome and these counts
+abbrev pub EndsWithin : List ℕ → List ℤ → ℕ → Finish → Type 0
+EndsWithin source input steps f = (code : CodeView) × IsCodeOf source code × EndsAs code (after code input steps) f
+
+-- so many words of a run: its finish, where code of the source has ended after them; and where it isn't over, that code hasn't
 abbrev pub IsPlainRanOf : List ℕ → List ℤ → ℕ → PlainRan → Type 0
-IsPlainRanOf source input steps (Ended f) = IsFinishOf source input f
+IsPlainRanOf source input steps (Ended f) = IsFinishOf source input f × EndsWithin source input steps f
 IsPlainRanOf source input steps More = (code : CodeView) × IsCodeOf source code × ((after code input steps).end ≡ None)
 
 -- a refusal of a source and its input: memory (50 and 62) says nothing, 61 is the input's, and any other is the source's

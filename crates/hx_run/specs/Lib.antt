@@ -3,3 +3,4 @@ pub mod Refusals
 pub mod Runs
 pub mod Headline
 pub mod Executions
+pub mod Limits

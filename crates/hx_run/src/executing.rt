@@ -1,27 +1,26 @@
 // A source that is read, run and told of.
 
-ghost use Rattle.std.specs.Prelude.{◌≡◌, ◌↔◌, ℕ, ◌+◌, ◌-◌, ◌^◌, ◌<◌, ◌++◌, List, take, is_err, if◌then◌else◌, IfOk, IfErr, OnOk, OnErr, IsErrOf};
-ghost use Rattle.std.specs.Io.KnownBytes.{Appends};
-ghost use Rattle.hx_run.specs.Executions.{failed_reads, failed_writes, tail_of, told, IsDone, IsShown, Refuses, RefusesSettings, RefusesToShow};
+ghost use Rattle.std.specs.Prelude.{◌≡◌, ◌↔◌, ◌+◌, ◌-◌, ◌^◌, ◌<◌, IfOk, IfErr, IsErrOf};
+ghost use Rattle.hx_run.specs.Executions.{failed_reads, failed_writes, IsDone, Refuses, RefusesSettings};
 
 use crate::reading::read_source;
 use crate::refusal::Refusal;
 use crate::running::{PlainRan, are_in_range, run_in_range, run_plain};
-use hx_device::{ByteSink, ByteSource, Failed, write_all};
+use crate::showing::{Tail, show};
+use hx_device::{ByteSink, ByteSource};
 use hx_pool::Gate;
-use hx_stats::report;
-use hx_tree::outcome::{End, Finish, Settings};
-use std::alloc::{AllocError, Global};
+use hx_tree::outcome::{End, Settings};
+use std::alloc::Global;
 use std::sync::Wait;
 use std::thread::Threads;
 
-/// How a program is run, and whether a report is written behind what it prints.
+/// How a program is run, and what is written behind what it prints.
 #[derive(Clone, Copy, PartialEq, Eq, Debug)]
 pub enum Mode {
     /// To its end, its marked loops on threads.
-    Run { stats: bool },
+    Run { tail: Tail },
     /// On one thread, for at most so many words of its code.
-    Plain { steps: u64, stats: bool },
+    Plain { steps: u64, tail: Tail },
 }
 
 /// What an execution comes to.
@@ -33,49 +32,6 @@ pub enum Done {
     NotEnded,
 }
 
-// What is written behind the text of a finish.
-fn tail(alloc: Global, finish: &Finish, stats: bool) -> Result<Vec<u8>, AllocError>
-    ensures { IfOk result (λ v. v.items ≡ tail_of stats finish.now) }
-{
-    if stats {
-        report(alloc, finish)
-    } else {
-        Ok(Vec::new(alloc))
-    }
-}
-
-// Two texts, one behind the other.
-fn write_both<K: ByteSink>(out: &mut K, first: &[u8], second: &[u8]) -> Result<(), Failed>
-    requires { K.failures out.old < 2 ^ 64 - 1 }
-    ensures written { OnOk result (Appends (K.written out.old) (K.written out.new) (first.now ++ second.now)) }
-    ensures beginning { OnErr result ((n : ℕ) × Appends (K.written out.old) (K.written out.new) (take n (first.now ++ second.now))) }
-    ensures count { K.failures out.new ≡ K.failures out.old + (if is_err result then 1 else 0) }
-{
-    write_all(out, first)?;
-    write_all(out, second)
-}
-
-// Writes a finish. Its report is made before anything is written.
-fn show<K: ByteSink>(
-    alloc: Global,
-    finish: &Finish,
-    stats: bool,
-    out: &mut K,
-) -> Result<Done, Refusal>
-    requires { K.failures out.old < 2 ^ 64 - 1 }
-    ensures shown { IfOk result (IsShown stats finish.now (K.written out.old) (K.written out.new)) }
-    ensures refused { IfErr result (RefusesToShow stats finish.now (K.written out.old) (K.written out.new)) }
-    ensures count { K.failures out.new ≡ K.failures out.old + failed_writes result }
-{
-    let Ok(tail) = tail(alloc, finish, stats) else {
-        return Err(Refusal::Memory);
-    };
-    match write_both(out, finish.outcome.text.as_slice(), tail.as_slice()) {
-        Ok(()) => Ok(Done::Finished(finish.outcome.end)),
-        Err(Failed) => Err(Refusal::WriteFailed),
-    }
-}
-
 /// `execute` in mode `Plain`, which waits for nothing.
 pub fn execute_plain<S: ByteSource, K: ByteSink>(
     alloc: Global,
@@ -83,19 +39,19 @@ pub fn execute_plain<S: ByteSource, K: ByteSink>(
     input: &[i32],
     out: &mut K,
     steps: u64,
-    stats: bool,
+    tail: Tail,
 ) -> Result<Done, Refusal>
     requires source { S.failures source.old < 2 ^ 64 - 1 }
     requires out { K.failures out.old < 2 ^ 64 - 1 }
-    ensures done { IfOk result (IsDone (Mode.Plain steps stats) input.now (S.rest source.old) (S.rest source.new) (K.written out.old) (K.written out.new)) }
-    ensures refused { IfErr result (Refuses (Mode.Plain steps stats) input.now (S.rest source.old) (S.rest source.new) (K.written out.old) (K.written out.new)) }
+    ensures done { IfOk result (IsDone (Mode.Plain steps tail) input.now (S.rest source.old) (S.rest source.new) (K.written out.old) (K.written out.new)) }
+    ensures refused { IfErr result (Refuses (Mode.Plain steps tail) input.now (S.rest source.old) (S.rest source.new) (K.written out.old) (K.written out.new)) }
     ensures settings { ¬ (IsErrOf result Refusal.Settings) }
     ensures reads { S.failures source.new ≡ S.failures source.old + failed_reads result }
     ensures writes { K.failures out.new ≡ K.failures out.old + failed_writes result }
 {
     let bytes = read_source(alloc, source)?;
     match run_plain(alloc, bytes.as_slice(), input, steps)? {
-        PlainRan::Ended(finish) => show(alloc, &finish, stats, out),
+        PlainRan::Ended(finish) => show(alloc, bytes.as_slice(), &finish, tail, out),
         PlainRan::More => Ok(Done::NotEnded),
     }
 }
@@ -108,27 +64,27 @@ fn execute_run<R: Threads + Wait + Sync, S: ByteSource, K: ByteSink, G: Gate>(
     input: &[i32],
     out: &mut K,
     settings: Settings,
-    stats: bool,
+    tail: Tail,
     gate: &G,
 ) -> Result<Done, Refusal>
     requires source { S.failures source.old < 2 ^ 64 - 1 }
     requires out { K.failures out.old < 2 ^ 64 - 1 }
-    ensures done { IfOk result (IsDone (Mode.Run stats) input.now (S.rest source.old) (S.rest source.new) (K.written out.old) (K.written out.new)) }
-    ensures refused { IfErr result (Refuses (Mode.Run stats) input.now (S.rest source.old) (S.rest source.new) (K.written out.old) (K.written out.new)) }
+    ensures done { IfOk result (IsDone (Mode.Run tail) input.now (S.rest source.old) (S.rest source.new) (K.written out.old) (K.written out.new)) }
+    ensures refused { IfErr result (Refuses (Mode.Run tail) input.now (S.rest source.old) (S.rest source.new) (K.written out.old) (K.written out.new)) }
     ensures settings { ¬ (IsErrOf result Refusal.Settings) }
     ensures reads { S.failures source.new ≡ S.failures source.old + failed_reads result }
     ensures writes { K.failures out.new ≡ K.failures out.old + failed_writes result }
 {
     let bytes = read_source(alloc, source)?;
     let finish = run_in_range(alloc, rt, bytes.as_slice(), input, settings, None, gate)?;
-    show(alloc, &finish, stats, out)
+    show(alloc, bytes.as_slice(), &finish, tail, out)
 }
 
-/// Reads a source, runs its program on an input, and writes what it prints, and behind that, where it is asked for, the report of the
-/// run. In mode `Run` the marked loops run on as many threads as the settings have workers, and the gate is told where each worker
+/// Reads a source, runs its program on an input, and writes what it prints, and behind that, where they are asked for, the report of the
+/// run and a line for each global. In mode `Run` the marked loops run on as many threads as the settings have workers, and the gate is told where each worker
 /// stands; mode `Plain` doesn't look at the settings.
 ///
-/// `Finished` has the end of a finish as `run` and `run_plain` promise one, whose whole text, with its report, was written;
+/// `Finished` has the end of a finish as `run` and `run_plain` promise one, whose whole text, with what was asked for, was written;
 /// `NotEnded` comes in mode `Plain` alone, where the run isn't over after its steps, and nothing was written. Refusals, in this order:
 /// 60 exactly where the settings are out of range in mode `Run`, before anything is read; 63 exactly where the source has failed in
 /// this call; those of `run`; 64 exactly where the output has failed in this call, with a beginning of the output written. After every
@@ -152,12 +108,12 @@ pub fn execute<R: Threads + Wait + Sync, S: ByteSource, K: ByteSink, G: Gate>(
     ensures writes { K.failures out.new ≡ K.failures out.old + failed_writes result }
 {
     match mode {
-        Mode::Run { stats } => {
+        Mode::Run { tail } => {
             if !are_in_range(settings) {
                 return Err(Refusal::Settings);
             }
-            execute_run(alloc, rt, source, input, out, settings, stats, gate)
+            execute_run(alloc, rt, source, input, out, settings, tail, gate)
         }
-        Mode::Plain { steps, stats } => execute_plain(alloc, source, input, out, steps, stats),
+        Mode::Plain { steps, tail } => execute_plain(alloc, source, input, out, steps, tail),
     }
 }

@@ -7,6 +7,7 @@ mod passing;
 mod reading;
 mod refusal;
 mod running;
+mod showing;
 mod source;
 #[cfg(test)]
 mod tests;
@@ -17,5 +18,6 @@ pub use hx_pool::{Call, Gate, Point, Unwatched};
 pub use reading::read_source;
 pub use refusal::Refusal;
 pub use running::{PlainRan, are_in_range, run, run_plain};
-pub use source::compile;
+pub use showing::Tail;
+pub use source::{compile, parse_source};
 pub use texts::parse_input;

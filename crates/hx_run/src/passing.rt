@@ -24,6 +24,7 @@ pub(crate) fn no_counts() -> Counts {
         holds: 0,
         abandons: 0,
         discarded: 0,
+        spared: 0,
     }
 }
 
@@ -38,6 +39,7 @@ pub(crate) fn add_up(a: Counts, b: Counts) -> Counts {
         holds: a.holds.saturating_add(b.holds),
         abandons: a.abandons.saturating_add(b.abandons),
         discarded: a.discarded.saturating_add(b.discarded),
+        spared: a.spared.saturating_add(b.spared),
     }
 }
 

@@ -86,7 +86,7 @@ fn run_code_for(alloc: Global, code: &Code, input: &[i32], steps: u64) -> Result
     }
 }
 
-/// Whether the settings are in range: 1 to 8 workers, and 1 to 4,096 words for read marks and for a write buffer each.
+/// Whether the settings are in range: 1 to 16 workers, and 1 to 4,096 words for read marks and for a write buffer each.
 pub fn are_in_range(settings: Settings) -> bool
     ensures { IsTrue result ↔ AreInRange settings }
 {

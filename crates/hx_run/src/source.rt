@@ -16,8 +16,11 @@ use hx_parse::parse;
 use hx_tree::tree::Program;
 use std::alloc::Global;
 
-// The program that a source spells.
-fn read(alloc: Global, source: &[u8]) -> Result<Program, Refusal>
+/// The program that a source spells, whether it is accepted or not.
+///
+/// An `Ok` is the one tree that the source spells. Refusals: 1 to 5, 10 and 11 mean that it spells none; 6 and 12 that memory was
+/// refused, which says nothing of the source.
+pub fn parse_source(alloc: Global, source: &[u8]) -> Result<Program, Refusal>
     ensures spelled { IfOk result (λ p. IsSpelledAlone source.now (program_of p)) }
     ensures refused { IfErr result (RefusesSource source.now) }
 {
@@ -34,7 +37,7 @@ pub fn compile(alloc: Global, source: &[u8]) -> Result<Code, Refusal>
     ensures code { IfOk result (IsCodeOf source.now) }
     ensures refused { IfErr result (RefusesSource source.now) }
 {
-    let program = read(alloc, source)?;
+    let program = parse_source(alloc, source)?;
     let checked = check(alloc, program)?;
     Ok(lower(alloc, &checked)?)
 }

@@ -43,7 +43,7 @@ workers_after_load w attempt a MarksFull xs = refl
 workers_after_load w attempt a LoadLost xs = refl
 
 pub workers_after_store : (w attempt a : ℕ) (v : ℤ) (z : Written) (xs : List (Slot LocalView)) → workers_of (after_store w attempt a v z xs) ≡ workers_of xs
-workers_after_store w attempt a v (Restarts n) xs = written w attempt a v xs
+workers_after_store w attempt a v (Restarts n had) xs = written w attempt a v xs
 workers_after_store w attempt a v BufferFull xs = refl
 workers_after_store w attempt a v NumbersEnd xs = refl
 workers_after_store w attempt a v StoreLost xs = refl

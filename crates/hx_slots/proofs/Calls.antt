@@ -4,7 +4,7 @@ use Rattle.std.specs.Prelude.{◌==◌}
 use Rattle.std.proofs.lemmas.List.{length-map, map-set, take-map, drop-map, get_or-map, set-get_or}
 use Rattle.hx_marks.specs.Table.{look, put}
 use Rattle.hx_code.specs.Local.{LocalView}
-use Rattle.hx_speculation.specs.Slots.{Slot, is_at, found, finds_own, written, writes_own, with_write, violated, squashed, may_restart, restarted, from_worker, restarted_from, LoadLost, Restarts, BufferFull, NumbersEnd, StoreLost}
+use Rattle.hx_speculation.specs.Slots.{Slot, is_at, found, finds_own, written, writes_own, with_write, violated, squashed, is_marked, may_restart, restarted, from_worker, restarted_from, LoadLost, Restarts, BufferFull, NumbersEnd, StoreLost}
 use Rattle.hx_speculation.specs.Frame.{is_full}
 use Rattle.hx_slots.specs.Slot.{SlotView, slots_of, found_of, marked_by}
 use Rattle.hx_slots.specs.Slots.{place_of, seen_behind, before_violated, after_load}
@@ -113,11 +113,11 @@ module _ (capacity w attempt a : ℕ) (v : ℤ) (xs : List SlotView) (k first : 
       let none : may_restart (violated a v (drop (suc k) (slots_of xs))) ≡ false = ap may_restart (sym violated_are) ∙ last in
       sym (own ∙ (rw (room, none) refl))
 
-  pub store_done : is_full capacity (get_or xs k d).slot.buffer a ≡ false → may_restart (slots_of (drop first xs)) ≡ true → Restarts (length (drop first xs)) ≡ written capacity w attempt a v (slots_of xs)
+  pub store_done : is_full capacity (get_or xs k d).slot.buffer a ≡ false → may_restart (slots_of (drop first xs)) ≡ true → Restarts (length (drop first xs)) (is_marked a (slots_of (drop (k + 1) xs))) ≡ written capacity w attempt a v (slots_of xs)
   store_done room may =
       let all : may_restart (violated a v (drop (suc k) (slots_of xs))) ≡ true = ap may_restart (sym violated_are) ∙ may in
       let count : length (drop first xs) ≡ length (violated a v (drop (suc k) (slots_of xs))) = sym (length-map (drop first xs) (λ (x : SlotView). x.slot)) ∙ ap length violated_are in
-      ap Restarts count ∙ sym (own ∙ (rw (room, all) refl))
+      ap₂ Restarts count (ap (is_marked a) rest_is) ∙ sym (own ∙ (rw (room, all) refl))
 
   pub store_writes : (y : SlotView) (to : List SlotView) → y.slot ≡ record (get_or xs k d).slot { buffer = put (get_or xs k d).slot.buffer a v } → slots_of to ≡ slots_of (take first (set xs k y)) ++ map restarted (slots_of (drop first (set xs k y))) → slots_of to ≡ with_write w attempt a v (slots_of xs)
   store_writes y to is done =

@@ -5,3 +5,6 @@ pub mod Dropping
 pub mod Active
 pub mod Calls
 pub mod Busy
+pub mod Bits
+pub mod Indexed
+pub mod Kept

@@ -1,2 +1,3 @@
 pub mod Slot
 pub mod Slots
+pub mod Index

@@ -6,6 +6,7 @@ use Rattle.hx_code.specs.Local.{LocalView}
 use Rattle.hx_speculation.specs.Board.{Capacities}
 use Rattle.hx_speculation.specs.Slots.{Slot, is_violated, Found as Finding, Known, New, MarksFull, LoadLost, with_mark, Written as Writing, Restarts, BufferFull, NumbersEnd, StoreLost, with_write}
 use Rattle.hx_slots.specs.Slot.{SlotView, slots_of}
+use Rattle.hx_slots.specs.Index.{IsIndexOf}
 use Rattle.hx_slots.specs.declared.slots.Written.{Written}
 use Rattle.hx_slots.specs.declared.slots.Written.TheVariants.{Restarts as DoRestart, Full as IsFull, NumbersEnd as DoEnd, Lost as IsLost}
 
@@ -44,14 +45,14 @@ after_load w attempt a LoadLost xs = xs
 
 -- what a write comes to, as the definition has it
 abbrev pub written_of : Written → Writing
-written_of (DoRestart n) = Restarts n
+written_of (DoRestart n had_readers) = Restarts n had_readers
 written_of IsFull = BufferFull
 written_of DoEnd = NumbersEnd
 written_of IsLost = StoreLost
 
 -- the iterations after a write that comes to this
 abbrev pub after_store : ℕ → ℕ → ℕ → ℤ → Writing → List (Slot LocalView) → List (Slot LocalView)
-after_store w attempt a v (Restarts n) xs = with_write w attempt a v xs
+after_store w attempt a v (Restarts n had_readers) xs = with_write w attempt a v xs
 after_store w attempt a v BufferFull xs = xs
 after_store w attempt a v NumbersEnd xs = xs
 after_store w attempt a v StoreLost xs = xs
@@ -75,10 +76,17 @@ abbrev pub AreWorkers : ℕ → List ℕ → Type 0
 AreWorkers n [] = Unit {0}
 AreWorkers n (x ∷ xs) = (x < n) × IsFree x xs × AreWorkers n xs
 
--- what is kept of them: the tables' room, that no two are one worker's, and room for all among the active and among the free
-pub record KeepsSlots (rooms : Capacities) (active : List SlotView) (active_room : ℕ) (free : List SlotView) (free_room : ℕ) : Type 0 where
+-- no two are one worker's
+abbrev pub AreApart : List ℕ → Type 0
+AreApart [] = Unit {0}
+AreApart (x ∷ xs) = IsFree x xs × AreApart xs
+
+-- what is kept of them: the tables' room, that no two are one worker's, room for all among the active and among the free, and that the
+-- index and the marks agree
+pub record KeepsSlots (rooms : Capacities) (active : List SlotView) (active_room : ℕ) (free : List SlotView) (free_room : ℕ) (rows : List ℕ) : Type 0 where
   pub active_rooms : HaveRooms rooms active
   pub free_rooms : HaveRooms rooms free
   pub workers : AreWorkers (length active + length free) (workers_of (slots_of active))
   pub active_fit : length active + length free ≤ active_room
   pub free_fit : length active + length free ≤ free_room
+  pub index : IsIndexOf rows (slots_of active)

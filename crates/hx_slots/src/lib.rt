@@ -2,6 +2,7 @@
 //! and written since. What a load finds among them, whom a store violates and who begins again is that of `hx_speculation`'s `specs/Slots`.
 #![tactic(auto)]
 
+mod index;
 mod places;
 pub mod slot;
 pub mod slots;

@@ -178,10 +178,13 @@ impl Slot {
     }
 
     /// Whether a write of the word restarts it, which sees this there now.
-    pub(crate) fn is_violated(&self, word: u32, _seen: i32) -> bool
-        ensures { result ≡ is_violated word _seen self.now.slot }
+    pub(crate) fn is_violated(&self, word: u32, seen: i32) -> bool
+        ensures { result ≡ is_violated word seen self.now.slot }
     {
-        self.marks.get(word).is_some()
+        match self.marks.get(word) {
+            Some(value) => value != seen,
+            None => false,
+        }
     }
 
     /// Whether the next attempt has a number of 64 bits.

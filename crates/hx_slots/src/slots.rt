@@ -7,19 +7,22 @@ ghost use Rattle.hx_speculation.specs.Slots.{Slot as SlotOf, found, written, fir
 ghost use Rattle.hx_slots.specs.Slot.{found_of, rooms_for};
 ghost use Rattle.hx_slots.specs.Slots.{SlotsView, after_load, after_store, written_of, place_of as place_where, numbered_at, workers_of, IsFree, AreWorkers};
 
-use crate::places::{first_violated, may_restart, place_at, place_of, restart, seen};
+use crate::index::MarkIndex;
+use crate::places::{first_violated, is_marked, may_restart, place_at, place_of, restart, seen};
 use crate::slot::{Found, Slot};
 use hx_code::code::Code;
 use hx_code::local::Local;
+use hx_tree::limits::CELL_LIMIT;
 use std::alloc::{AllocError, Global};
 use std::marker::Model;
 
 /// The active iterations, in order from the head, each of another worker. Contracts see them, how many there may be, and how many words
-/// their tables may have.
+/// their tables may have. Inside, an index tells for each store word whose iteration has marked it, so that a store asks no others.
 #[derive(Drop)]
 pub struct Slots {
     active: Vec<Slot>,
     free: Vec<Slot>,
+    index: MarkIndex,
     marks: u32,
     buffer: u32,
 }
@@ -33,14 +36,14 @@ impl Model for Slots {
 
     ghost view = { λ s. record { active = slots_of s.active.items; slots = length s.active.items + length s.free.items; rooms = rooms_for s.marks s.buffer } };
 
-    ghost invariant = { λ s. KeepsSlots (rooms_for s.marks s.buffer) s.active.items (vec_capacity s.active) s.free.items (vec_capacity s.free) };
+    ghost invariant = { λ s. KeepsSlots (rooms_for s.marks s.buffer) s.active.items (vec_capacity s.active) s.free.items (vec_capacity s.free) s.index.rows.items };
 }
 
 /// What a store comes to.
 #[derive(Clone, Copy, PartialEq, Eq, Debug)]
 pub enum Written {
-    /// It is done, and so many iterations begin again.
-    Restarts(usize),
+    /// It is done, and so many iterations begin again, perhaps none; a later one had marked the word, or none had.
+    Restarts { count: usize, had_readers: bool },
     /// There is no room for the word.
     Full,
     /// An iteration that would begin again has the last number of 64 bits for its attempt.
@@ -67,6 +70,7 @@ impl Slots {
         Ok(Slots {
             active: Vec::with_capacity(alloc, slots as usize)?,
             free,
+            index: MarkIndex::new(alloc, code.globals() as usize + CELL_LIMIT)?,
             marks,
             buffer,
         })
@@ -130,11 +134,13 @@ impl Slots {
             return Found::Lost;
         }
         let seen = seen(&self.active, place, word, committed);
-        self.active[place].load(word, seen)
+        let found = self.active[place].load(word, seen);
+        self.index.note(found, word, worker);
+        found
     }
 
-    /// A store of a value in a word: what it comes to. Where it is done, the first iteration behind that has marked the word begins again,
-    /// and all after that one.
+    /// A store of a value in a word: what it comes to. Where it is done, the first iteration behind whose mark of the word isn't what it
+    /// sees there now begins again, and all after that one.
     pub fn store(&mut self, worker: u32, attempt: u64, word: u32, value: i32) -> Written
         ensures written { written_of result ≡ written self.old.rooms.buffer worker attempt word value self.old.active }
         ensures after { self.new ≡ record self.old { active = after_store worker attempt word value (written_of result) self.old.active } }
@@ -146,13 +152,19 @@ impl Slots {
         if self.active[place].is_full(self.buffer, word) {
             return Written::Full;
         }
-        let first = first_violated(&self.active, place + 1, word, value);
+        let readers = self.index.readers(word);
+        let first = first_violated(&self.active, readers, place + 1, word, value);
         if !may_restart(&self.active, first) {
             return Written::NumbersEnd;
         }
+        let had_readers = is_marked(&self.active, readers, place + 1, word);
+        self.index.forget_from(&self.active, first);
         self.active[place].write(word, value);
         restart(&mut self.active, first);
-        Written::Restarts(self.active.len() - first)
+        Written::Restarts {
+            count: self.active.len() - first,
+            had_readers,
+        }
     }
 
     /// A worker's iteration begins again, and all after it. Nothing changes where one of them has the last number of 64 bits for its
@@ -166,6 +178,7 @@ impl Slots {
         if !may_restart(&self.active, first) {
             return false;
         }
+        self.index.forget_from(&self.active, first);
         restart(&mut self.active, first);
         true
     }
@@ -183,6 +196,8 @@ impl Slots {
         requires { 0 < length self.old.active }
         ensures { (x : SlotOf LocalView) (later : _) → self.old.active ≡ x ∷ later → self.new ≡ record self.old { active = record x { start = start.now; marks = []; buffer = [] } ∷ later } }
     {
+        let head = &self.active[0];
+        self.index.forget(head.marks(), head.worker());
         self.active[0].renew(start);
     }
 
@@ -192,6 +207,7 @@ impl Slots {
         ensures { self.new ≡ record self.old { active = drop 1 self.old.active } }
     {
         let first = self.active.remove(0);
+        self.index.forget(first.marks(), first.worker());
         let Ok(()) = self.free.push(first) else {
             unreachable!()
         };
@@ -201,6 +217,7 @@ impl Slots {
     pub fn drop_all(&mut self)
         ensures { self.new ≡ record self.old { active = [] } }
     {
+        self.index.forget_from(&self.active, 0);
         while let Some(slot) = self.active.pop() {
             let Ok(()) = self.free.push(slot) else {
                 unreachable!()

@@ -8,16 +8,17 @@ use Rattle.hx_speculation.specs.Iteration.{Ask, Goes, Loads, Stores, Prints, Tur
 use Rattle.hx_speculation.specs.Region.{has_room_for}
 use Rattle.hx_speculation.specs.Frame.{Frame, Need, Nothing, ForLoad, ForStore, ForHead, Held, stretch}
 use Rattle.hx_speculation.specs.Slots.{Slot, of_worker, may_restart, Found, Known, New, MarksFull, LoadLost, found, Written, Restarts, BufferFull, NumbersEnd, StoreLost, written, from_worker}
-use Rattle.hx_speculation.specs.Board.{Board, Token, Call, Start, Load, Write, Head, Alive, Settle, Abandon, Answer, Go, Value, Done, Full, Yours, NotYet, Live, Again, Squashed, NotThisFrame, Ended, spends, next_iteration, starts, after_load as board_load, violates, after_store as board_store, gives_head, asks_head, is_of_slot, commits, ends, settles_ask, settles_need, refuses, settles, abandons, does, has_ended, call}
+use Rattle.hx_speculation.specs.Board.{Board, Token, Call, Start, Load, Write, Head, Alive, Settle, Abandon, Answer, Go, Value, Done, Full, Yours, NotYet, Live, Again, Squashed, NotThisFrame, Ended, spends, next_iteration, starts, after_load as board_load, counts_store, after_store as board_store, gives_head, asks_head, is_of_slot, commits, ends, settles_ask, settles_need, refuses, settles, abandons, does, has_ended, call}
 use Rattle.hx_speculation.specs.Replay.{Running, World, Course, board_after, spends_token, after_start, after_load, after_write, after_alive, after_head, after_settle, at_head, at_stop, entry_of}
 use Rattle.hx_speculation.proofs.Stores.{if_cases}
 
 pub counted_is_some : (n : ℕ) → held (n + 1) ≡ 0 → ⊥
 counted_is_some n e = omega arith
 
-violates_abandons : (n : ℕ) (c : Counts) → (violates n c).abandons ≡ c.abandons
-violates_abandons zero c = refl
-violates_abandons (suc n) c = refl
+store_abandons : (n : ℕ) (had : Bool) (c : Counts) → (counts_store n had c).abandons ≡ c.abandons
+store_abandons zero false c = refl
+store_abandons zero true c = refl
+store_abandons (suc n) had c = refl
 
 module _ {σ : Type 0} (c : Course σ) where
   -- where none is counted after this, none was before
@@ -35,7 +36,7 @@ module _ {σ : Type 0} (c : Course σ) where
   load_none w attempt a b LoadLost e = e
 
   store_none : (w attempt a : ℕ) (v : ℤ) (b : Board σ) (z : Written) → NoneBefore b (board_store w attempt a v b z)
-  store_none w attempt a v b (Restarts n) e = sym (violates_abandons n b.counts) ∙ e
+  store_none w attempt a v b (Restarts n had) e = sym (store_abandons n had b.counts) ∙ e
   store_none w attempt a v b BufferFull e = e
   store_none w attempt a v b NumbersEnd e = e
   store_none w attempt a v b StoreLost e = e

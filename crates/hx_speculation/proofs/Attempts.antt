@@ -1,4 +1,4 @@
--- What holds of the iterations of an independent loop, through loads and stores.
+-- What holds of the iterations of a quiet loop, through loads and stores.
 use Rattle.std.proofs.Common.{◌≡◌, ◌≢◌, ℕ, suc, ◌<◌, ◌≤◌, ℤ, ◌⊎◌, inl, inr, Bool, true, false, ◌&&◌, ◌==◌, not, List, [], ◌∷◌, length, map, Option, Some, None, refl, sym, ap, ◌∙◌, subst, arith}
 use Rattle.std.specs.Prelude.{if◌then◌else◌, nat_le, is_some}
 use Rattle.std.proofs.lemmas.Bool.{false≢true}
@@ -8,13 +8,14 @@ use Rattle.hx_buffer.specs.Overlay.{or_else}
 use Rattle.hx_speculation.specs.Iteration.{Store, overlay, Agrees, Loads, Stores}
 use Rattle.hx_speculation.specs.Region.{Region}
 use Rattle.hx_speculation.specs.Frame.{Frame, Nothing, ForLoad, ForStore, IsTracked, is_full, loaded, stored}
-use Rattle.hx_speculation.specs.Slots.{Slot, is_at, restarted, may_restart, Found, Known, New, MarksFull, LoadLost, finds_seen, finds_own, found, with_mark, is_violated, violated, squashed, Written, Restarts, BufferFull, NumbersEnd, StoreLost, writes_own, written, with_write}
+use Rattle.hx_speculation.specs.Slots.{Slot, is_at, restarted, may_restart, Found, Known, New, MarksFull, LoadLost, finds_seen, finds_own, found, with_mark, differs, is_violated, violated, squashed, is_marked, Written, Restarts, BufferFull, NumbersEnd, StoreLost, writes_own, written, with_write}
 use Rattle.hx_speculation.specs.Board.{Token}
 use Rattle.hx_speculation.specs.Replay.{Running, with_running}
 use Rattle.hx_speculation.specs.Watch.{in_turn, ComesWatched, Begins, Exposed, Wrote, IsIndependent, IsQuiet}
 use Rattle.hx_speculation.specs.Attempts.{HasCommittedNone}
 use Rattle.hx_speculation.proofs.Stores.{if_cases, and_left, and_right, eq_true, eq_same, same_or_not}
 use Rattle.hx_speculation.proofs.Watch.{watched_comes, Source, knows, begins_before}
+use Rattle.hx_speculation.proofs.Slots.{is_other}
 use Rattle.hx_speculation.proofs.Track.{exposed_here, wrote_here}
 use Rattle.hx_speculation.proofs.Links.{workers, Apart, Distinct, InSync, Empty, Linked, Links, links_apart, worker_link, squash_links, IsSameBut, same_sync, loaded_is, stored_is}
 
@@ -99,10 +100,7 @@ module _ {σ : Type 0} (r : Region σ) (entry : Store) (head : ℕ) (s : Store) 
   exposed_begins : (j a : ℕ) → Exposed r entry j a → Begins r entry j
   exposed_begins j a e = (e.0, e.1, e.2, watched_comes r entry j e.0 e.1 e.2 e.3 e.5)
 
-  module _ (independent : IsIndependent r entry) where
-    quiet : IsQuiet r entry
-    quiet = independent_is_quiet r entry independent
-
+  module _ (quiet : IsQuiet r entry) where
     clean_at : (j i b : ℕ) (seen : Store) (x : Slot σ) (o : Option ℤ) → look x.buffer b ≡ o → Clean j seen → (Begins r entry j → SlotFacts j x) → suc j ≤ i → head < i → Exposed r entry i b → or_else o (seen b) ≡ entry b
     clean_at j i b seen x None e c f le lt ex = c i b (omega (arith, le)) lt ex
     clean_at j i b seen x (Some v) e c f le lt ex =
@@ -116,17 +114,23 @@ module _ {σ : Type 0} (r : Region σ) (entry : Store) (head : ℕ) (s : Store) 
     clean_here j a seen x c at_head (inl lt) ex = c j a (omega arith) lt ex
     clean_here j a seen x c at_head (inr k) ex = ap (λ (u : Store). u a) (at_head k.0) ∙ opening_clean r entry j x.start s text quiet k.1 a ex
 
+    -- where a store leaves the word as it is in the entry for an iteration, so it is for the next
+    seen_next : (j i a : ℕ) (u : ℤ) (x : Slot σ) (o : Option ℤ) → look x.buffer a ≡ o → (Begins r entry j → SlotFacts j x) → suc j ≤ i → Exposed r entry i a → u ≡ entry a → or_else o u ≡ entry a
+    seen_next j i a u x None e f le ex is_entrys = is_entrys
+    seen_next j i a u x (Some v) e f le ex is_entrys =
+        quiet j i a v (omega (arith, le)) ((f (begins_before r entry j i (omega (arith, le)) (exposed_begins i a ex))).words a v e) ex
+
     -- stores restart no iteration that the plain region begins
-    squash_facts : (j a : ℕ) (u : ℤ) (xs : List (Slot σ)) → head < j → ((i : ℕ) → j ≤ i → Exposed r entry i a → ⊥) → Facts j xs → Facts j (squashed a u xs)
+    squash_facts : (j a : ℕ) (u : ℤ) (xs : List (Slot σ)) → head < j → ((i : ℕ) → j ≤ i → Exposed r entry i a → u ≡ entry a) → Facts j xs → Facts j (squashed a u xs)
     squash_facts j a u [] lt n f = tt
     squash_facts j a u (x ∷ xs) lt n f =
         if_cases (Facts j) (is_violated a u x) (map restarted (x ∷ xs)) (x ∷ squashed a (or_else (look x.buffer a) u) xs)
         (λ k. facts_none j (map restarted (x ∷ xs)) (λ b. marked (look x.marks a) refl k b))
-        (λ _. (f.0, squash_facts (suc j) a (or_else (look x.buffer a) u) xs (omega arith) (λ i le. n i (omega arith)) f.1))
+        (λ _. (f.0, squash_facts (suc j) a (or_else (look x.buffer a) u) xs (omega arith) (λ i le ex. seen_next j i a u x (look x.buffer a) refl f.0 le ex (n i (omega arith) ex)) f.1))
       where
-        marked : (o : Option ℤ) → look x.marks a ≡ o → is_some o ≡ true → Begins r entry j → ⊥
+        marked : (o : Option ℤ) → look x.marks a ≡ o → differs o u ≡ true → Begins r entry j → ⊥
         marked None e k b = false≢true k
-        marked (Some v) e k b = n j (omega arith) ((f.0 b).marks a v (inl lt) e).0
+        marked (Some v) e k b = let m = (f.0 b).marks a v (inl lt) e in is_other v u k (m.1 ∙ sym (n j (omega arith) m.0))
 
     -- a worker's frame y has run on to f
     module _ (g : ℕ → Option (Running σ)) (w : ℕ) (y : Running σ) (is : g w ≡ Some y) (f : Frame σ) (same : IsSameBut y.frame f) (token : Option Token) (tracked : IsTracked r.ask f) where
@@ -238,7 +242,7 @@ module _ {σ : Type 0} (r : Region σ) (entry : Store) (head : ℕ) (s : Store) 
       -- the store that it asks for
       module _ (capacity a : ℕ) (v : ℤ) (next : σ) (need : f.need ≡ ForStore a v) (asks : r.ask f.here ≡ Stores a v next) where
         abbrev pub StoreKept : ℕ → Written → List (Slot σ) → Type 0
-        StoreKept j (Restarts n) xs = Links (with_running g w (Some (record { frame = stored r.ask capacity f; token = token }))) (with_write w f.attempt a v xs) × Facts j (with_write w f.attempt a v xs)
+        StoreKept j (Restarts n had) xs = Links (with_running g w (Some (record { frame = stored r.ask capacity f; token = token }))) (with_write w f.attempt a v xs) × Facts j (with_write w f.attempt a v xs)
         StoreKept j BufferFull xs = Unit {0}
         StoreKept j NumbersEnd xs = Unit {0}
         StoreKept j StoreLost xs = Links (with_running g w None) xs
@@ -256,8 +260,8 @@ module _ {σ : Type 0} (r : Region σ) (entry : Store) (head : ℕ) (s : Store) 
             subst (λ z. Wrote r entry j z u) (sym e) (subst (Wrote r entry j a) same_value wr)
         written_facts j b u x fx wr (inr n) k = fx.words b u (sym (look_put_other x.buffer a b v n) ∙ k)
 
-        store_done : (j n : ℕ) (x : Slot σ) (xs : List (Slot σ)) → is_full capacity x.buffer a ≡ false → is_at x w f.attempt ≡ true → InSync f x → x.worker ≡ w → Apart w (workers xs) → Links g xs → (Begins r entry j → SlotFacts j x) → Facts (suc j) xs → (Begins r entry j → Anchor j x) → head ≤ j → StoreKept j (Restarts n) (x ∷ xs)
-        store_done j n x xs room here sync e apart l fx fs k le =
+        store_done : (j n : ℕ) (had : Bool) (x : Slot σ) (xs : List (Slot σ)) → is_full capacity x.buffer a ≡ false → is_at x w f.attempt ≡ true → InSync f x → x.worker ≡ w → Apart w (workers xs) → Links g xs → (Begins r entry j → SlotFacts j x) → Facts (suc j) xs → (Begins r entry j → Anchor j x) → head ≤ j → StoreKept j (Restarts n had) (x ∷ xs)
+        store_done j n had x xs room here sync e apart l fx fs k le =
             let wrote : Slot σ = record x { buffer = put x.buffer a v } in
             let empty_place : is_full capacity f.writes a ≡ false = ap (λ (t : Table). is_full capacity t a) sync.words ∙ room in
             let frame_is = stored_is r.ask f capacity a v next need asks empty_place in
@@ -272,20 +276,20 @@ module _ {σ : Type 0} (r : Region σ) (entry : Store) (head : ℕ) (s : Store) 
                   words = λ i u lk. written_facts j i u x (fx b) (store_wrote j x sync (k b)) (same_or_not i a) lk;
                 },
                 squash_facts (suc j) a v xs (omega arith)
-                    (λ i lt ex. let bj = begins_before r entry j i (omega arith) (exposed_begins i a ex) in independent j i a v lt (store_wrote j x sync (k bj)) ex) fs,
+                    (λ i lt ex. let bj = begins_before r entry j i (omega arith) (exposed_begins i a ex) in quiet j i a v lt (store_wrote j x sync (k bj)) ex) fs,
               ),
             )
 
         store_here : (j : ℕ) (x : Slot σ) (xs : List (Slot σ)) → is_at x w f.attempt ≡ true → InSync f x → x.worker ≡ w → Apart w (workers xs) → Links g xs → (Begins r entry j → SlotFacts j x) → Facts (suc j) xs → (Begins r entry j → Anchor j x) → head ≤ j → StoreKept j (writes_own capacity a v x xs) (x ∷ xs)
         store_here j x xs here sync e apart l fx fs k le =
-            if_cases (λ z. StoreKept j z (x ∷ xs)) (is_full capacity x.buffer a) BufferFull (if may_restart (violated a v xs) then Restarts (length (violated a v xs)) else NumbersEnd)
+            if_cases (λ z. StoreKept j z (x ∷ xs)) (is_full capacity x.buffer a) BufferFull (if may_restart (violated a v xs) then Restarts (length (violated a v xs)) (is_marked a xs) else NumbersEnd)
             (λ _. tt)
-            (λ room. if_cases (λ z. StoreKept j z (x ∷ xs)) (may_restart (violated a v xs)) (Restarts (length (violated a v xs))) NumbersEnd
-            (λ _. store_done j (length (violated a v xs)) x xs room here sync e apart l fx fs k le)
+            (λ room. if_cases (λ z. StoreKept j z (x ∷ xs)) (may_restart (violated a v xs)) (Restarts (length (violated a v xs)) (is_marked a xs)) NumbersEnd
+            (λ _. store_done j (length (violated a v xs)) (is_marked a xs) x xs room here sync e apart l fx fs k le)
             (λ _. tt))
 
         store_past : (j : ℕ) (x : Slot σ) (xs : List (Slot σ)) (z : Written) → written capacity w f.attempt a v xs ≡ z → is_at x w f.attempt ≡ false → Apart x.worker (workers xs) → Linked (g x.worker) x → (Begins r entry j → SlotFacts j x) → StoreKept (suc j) z xs → StoreKept j z (x ∷ xs)
-        store_past j x xs (Restarts n) e t d l fx h =
+        store_past j x xs (Restarts n had) e t d l fx h =
             subst (λ ys. Links (with_running g w (Some (record { frame = stored r.ask capacity f; token = token }))) ys × Facts j ys) (sym (write_past w f.attempt a v x xs t)) (
               (other_link x _ t l (λ same_worker. let lost = store_lost capacity w f.attempt a v xs (subst (λ q. Apart q (workers xs)) same_worker d) in absurd (cc)), h.0),
               (fx, h.1),

@@ -85,7 +85,7 @@ abbrev still : Answer ℕ → List Row → Counts → Seen
 still ans rows counts = record { answer = ans; head = 0; active = rows; words = (pos 50, pos 51); text = []; exit = None; is_out = false; is_spent = false; counts = counts }
 
 abbrev none : Counts
-none = record { regions = 1; turns = 0; repeats = 0; violations = 0; restarts = 0; holds = 0; abandons = 0; discarded = 0 }
+none = record { regions = 1; turns = 0; repeats = 0; violations = 0; restarts = 0; holds = 0; abandons = 0; discarded = 0; spared = 0 }
 
 -- an iteration that has read and written nothing
 abbrev fresh : ℕ → ℕ → ℕ → Row
@@ -158,10 +158,25 @@ last_restarted : last (three ++ Load 0 1 0 ∷ Load 7 1 1 ∷ []) (Write 4 1 1 (
     ≡ still Done ((4, 1, 100, [], (1, pos 9) ∷ []) ∷ (0, 1, 101, (0, pos 50) ∷ [], []) ∷ fresh 7 2 102 ∷ []) (record none { violations = 1; restarts = 1 })
 last_restarted = refl
 
--- also where the word has had this value
+-- a value that was read is still seen
 same_value : last (three ++ Load 7 1 1 ∷ []) (Write 4 1 1 (pos 51))
-    ≡ still Done ((4, 1, 100, [], (1, pos 51) ∷ []) ∷ fresh 0 1 101 ∷ fresh 7 2 102 ∷ []) (record none { violations = 1; restarts = 1 })
+    ≡ still Done ((4, 1, 100, [], (1, pos 51) ∷ []) ∷ fresh 0 1 101 ∷ (7, 1, 102, (1, pos 51) ∷ [], []) ∷ []) (record none { spared = 1 })
 same_value = refl
+
+-- a nearer iteration has written the word
+covered_value : last (three ++ Write 0 1 1 (pos 9) ∷ Load 7 1 1 ∷ []) (Write 4 1 1 (pos 8))
+    ≡ still Done ((4, 1, 100, [], (1, pos 8) ∷ []) ∷ (0, 1, 101, [], (1, pos 9) ∷ []) ∷ (7, 1, 102, (1, pos 9) ∷ [], []) ∷ []) (record none { spared = 1 })
+covered_value = refl
+
+-- one that has read the word before it wrote it begins again, and all behind it with it
+reader_before_cover : last (three ++ Load 0 1 1 ∷ Write 0 1 1 (pos 9) ∷ Load 7 1 1 ∷ []) (Write 4 1 1 (pos 8))
+    ≡ still Done ((4, 1, 100, [], (1, pos 8) ∷ []) ∷ fresh 0 2 101 ∷ fresh 7 2 102 ∷ []) (record none { violations = 1; restarts = 2 })
+reader_before_cover = refl
+
+-- the cover itself may change what is seen
+cover_changes : last (three ++ Write 4 1 1 (pos 8) ∷ Write 0 1 1 (pos 9) ∷ Load 7 1 1 ∷ []) (Write 0 1 1 (pos 8))
+    ≡ still Done ((4, 1, 100, [], (1, pos 8) ∷ []) ∷ (0, 1, 101, [], (1, pos 8) ∷ []) ∷ fresh 7 2 102 ∷ []) (record none { violations = 1; restarts = 1 })
+cover_changes = refl
 
 -- earlier ones and its own marks don't matter
 none_restarted : last (three ++ Load 4 1 1 ∷ Load 0 1 1 ∷ []) (Write 0 1 1 (pos 9))
@@ -372,7 +387,7 @@ stays_spent = refl
 -- ---- counts stop at the largest number
 
 abbrev counted : Counts
-counted = record { regions = 1; turns = largest; repeats = largest; violations = largest; restarts = largest; holds = largest; abandons = largest; discarded = largest }
+counted = record { regions = 1; turns = largest; repeats = largest; violations = largest; restarts = largest; holds = largest; abandons = largest; discarded = largest; spared = largest }
 
 abbrev all_counted : List (Call ℕ) → Board ℕ
 all_counted calls = record (after region room calls (opened store)) { counts = counted }
@@ -382,6 +397,9 @@ turns_stop = refl
 
 restarts_stop : (call region room (Write 4 1 1 (pos 9)) (all_counted (three ++ Load 0 1 1 ∷ []))).1.counts ≡ counted
 restarts_stop = refl
+
+spared_stop : (call region room (Write 4 1 1 (pos 51)) (all_counted (three ++ Load 0 1 1 ∷ []))).1.counts ≡ counted
+spared_stop = refl
 
 holds_stop : (call region room (Load 0 1 2) (all_counted (three ++ Load 0 1 0 ∷ Load 0 1 1 ∷ []))).1.counts ≡ counted
 holds_stop = refl

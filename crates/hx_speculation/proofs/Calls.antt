@@ -9,7 +9,7 @@ use Rattle.hx_speculation.specs.Iteration.{Store, overlay, Agrees, Ask, Goes, Lo
 use Rattle.hx_speculation.specs.Region.{Region, Going, Over, has_room_for, does as gives, Comes}
 use Rattle.hx_speculation.specs.Frame.{Frame, IsTracked, Need, Nothing, ForLoad, ForStore, ForHead, Held}
 use Rattle.hx_speculation.specs.Slots.{Slot, first_attempt, of_worker, may_restart, Found, Known, New, MarksFull, LoadLost, found, with_mark, Written, Restarts, BufferFull, NumbersEnd, StoreLost, written, with_write, from_worker, restarted_from}
-use Rattle.hx_speculation.specs.Board.{Board, Capacities, Token, Call, Start, Load, Write, Head, Alive, Settle, Abandon, Answer, NotYet, Squashed, NotThisFrame, Ended, spends, next_iteration, starts, after_load, violates, after_store, gives_head, asks_head, is_of_slot, commits, ends, passes, settles_ask, settles_need, refuses, settles, abandons, does, has_ended, call, after, opened}
+use Rattle.hx_speculation.specs.Board.{Board, Capacities, Token, Call, Start, Load, Write, Head, Alive, Settle, Abandon, Answer, NotYet, Squashed, NotThisFrame, Ended, spends, next_iteration, starts, after_load, counts_store, after_store, gives_head, asks_head, is_of_slot, commits, ends, passes, settles_ask, settles_need, refuses, settles, abandons, does, has_ended, call, after, opened}
 use Rattle.hx_speculation.specs.Sound.{head_start, AreOpening, RestIsOpening, MarksAreSeen, starts_of, shown, IsSound, HasTrackedFrame, HaveTrackedFrames}
 use Rattle.hx_speculation.proofs.Stores.{if_cases, and_left, and_right, same_table_holds, agrees_nil}
 use Rattle.hx_speculation.proofs.Steps.{comes_on, went_comes}
@@ -23,9 +23,10 @@ pub record CountsSame (c d : Counts) : Type 0 where
 as_counted : (c : Counts) → CountsSame c c
 as_counted c = record { turns = refl; regions = refl }
 
-violates_same : (n : ℕ) (c : Counts) → CountsSame (violates n c) c
-violates_same zero c = as_counted c
-violates_same (suc n) c = record { turns = refl; regions = refl }
+store_same : (n : ℕ) (had : Bool) (c : Counts) → CountsSame (counts_store n had c) c
+store_same zero false c = as_counted c
+store_same zero true c = record { turns = refl; regions = refl }
+store_same (suc n) had c = record { turns = refl; regions = refl }
 
 held_next : (k : ℕ) → held (held k + 1) ≡ held (suc k)
 held_next k = omega arith
@@ -76,9 +77,9 @@ module _ {σ : Type 0} (r : Region σ) (entry : Store) where
   load_sound capacity w attempt a b LoadLost e h = h
 
   store_sound : (w attempt a : ℕ) (v : ℤ) (b : Board σ) (z : Written) → IsSound r entry b → SoundAfter (after_store w attempt a v b z)
-  store_sound w attempt a v b (Restarts n) h =
+  store_sound w attempt a v b (Restarts n had) h =
       let k = write_kept w attempt a v b.store b.active h.marks in
-      sound_same b (with_write w attempt a v b.active) b.is_out b.is_spent _ (violates_same n b.counts) h k.0 k.1
+      sound_same b (with_write w attempt a v b.active) b.is_out b.is_spent _ (store_same n had b.counts) h k.0 k.1
   store_sound w attempt a v b BufferFull h = sound_but b b.is_out b.is_spent _ (record { turns = refl; regions = refl }) h
   store_sound w attempt a v b NumbersEnd h = sound_but b b.is_out true b.counts (as_counted b.counts) h
   store_sound w attempt a v b StoreLost h = h

@@ -13,4 +13,5 @@ pub mod Abandons
 pub mod Repeats
 pub mod Rows
 pub mod WatchRows
+pub mod QuietRows
 pub mod CallRows

@@ -1,4 +1,4 @@
--- Independent loops never repeat, whatever the schedule.
+-- Quiet loops never repeat, whatever the schedule.
 use Rattle.std.proofs.Common.{◌≡◌, ℕ, zero, suc, ◌+◌, ◌^◌, ◌<◌, ℤ, inl, inr, Bool, true, false, ◌&&◌, ◌==◌, not, List, [], ◌∷◌, ◌++◌, Option, Some, None, refl, sym, ◌∙◌, subst, arith}
 use Rattle.std.specs.Prelude.{nat_lt}
 use Rattle.std.proofs.lemmas.Bool.{false≢true}
@@ -10,10 +10,10 @@ use Rattle.hx_speculation.specs.Iteration.{Store, overlay, Agrees, Ask, Goes, Lo
 use Rattle.hx_speculation.specs.Region.{Going, Comes, has_room_for}
 use Rattle.hx_speculation.specs.Frame.{Frame, Need, Nothing, ForLoad, ForStore, ForHead, Held, IsTrue, IsNeeded, begins, stretch, loaded, stored, holds}
 use Rattle.hx_speculation.specs.Slots.{Slot, first_attempt, of_worker, may_restart, Found, Known, New, MarksFull, LoadLost, found, with_mark, Written, Restarts, BufferFull, NumbersEnd, StoreLost, written, with_write, from_worker}
-use Rattle.hx_speculation.specs.Board.{Board, Token, Start, Load, Write, Head, Alive, Settle, Abandon, Answer, Go, Yours, NotYet, Live, Again, Squashed, NotThisFrame, Ended, spends, next_iteration, starts, after_load as board_load, violates, after_store as board_store, gives_head, asks_head, lives, is_of_slot, commits, ends, passes, settles_ask, settles_need, refuses, settles, abandons, does, has_ended, call}
+use Rattle.hx_speculation.specs.Board.{Board, Token, Start, Load, Write, Head, Alive, Settle, Abandon, Answer, Go, Yours, NotYet, Live, Again, Squashed, NotThisFrame, Ended, spends, next_iteration, starts, after_load as board_load, counts_store, after_store as board_store, gives_head, asks_head, lives, is_of_slot, commits, ends, passes, settles_ask, settles_need, refuses, settles, abandons, does, has_ended, call}
 use Rattle.hx_speculation.specs.Sound.{head_start, AreOpening, RestIsOpening, MarksAreSeen, starts_of, shown, IsSound}
 use Rattle.hx_speculation.specs.Replay.{Running, World, Course, with_running, stops, board_after, spends_token, after_start, after_load, after_write, after_alive, after_head, after_settle, at_head, at_stop, entry_of, replayed, world_at}
-use Rattle.hx_speculation.specs.Watch.{in_turn, ComesWatched, Begins, IsIndependent, IsQuiet}
+use Rattle.hx_speculation.specs.Watch.{in_turn, ComesWatched, Begins, IsQuiet}
 use Rattle.hx_speculation.specs.Attempts.{AttemptsAreOne, HasCommittedNone, MarksAreOfEntry}
 use Rattle.hx_speculation.proofs.Stores.{if_cases, and_left, and_right, eq_true, eq_same}
 use Rattle.hx_speculation.proofs.Calls.{runs_on, opened_sound}
@@ -22,7 +22,7 @@ use Rattle.hx_speculation.proofs.Replay.{RunsTrue, IsTrueWorld, entry_kept}
 use Rattle.hx_speculation.proofs.Watch.{Source, comes_watched, knows}
 use Rattle.hx_speculation.proofs.Abandons.{counted_is_some, call_none, entry_none}
 use Rattle.hx_speculation.proofs.Links.{workers, Apart, Distinct, Empty, Linked, Links, links_set, links_apart, worker_link, mark_workers, write_workers, of_none, of_links, distinct_new, links_new, IsSameBut, same_then, same_sync, stretch_same, holds_same, loaded_worker, stored_worker}
-use Rattle.hx_speculation.proofs.Attempts.{independent_is_quiet, opening_clean, Facts, Anchor, Anchored, Clean, LoadKept, load_once, StoreKept, store_once, facts_later}
+use Rattle.hx_speculation.proofs.Attempts.{opening_clean, Facts, Anchor, Anchored, Clean, LoadKept, load_once, StoreKept, store_once, facts_later}
 
 -- who settles is the worker of the slot
 settler : {σ : Type 0} (t : Token) (f : Frame σ) (x : Slot σ) (j : ℕ) (same : Bool) → (((t.worker == x.worker) && ((t.iteration == j) && ((t.attempt == x.attempt) && ((f.worker == x.worker) && ((f.iteration == j) && (f.attempt == x.attempt)))))) && same) ≡ true → f.worker ≡ x.worker
@@ -40,14 +40,12 @@ spent_ended (Some e) = refl
 not_both : {A : Type 0} (b : Bool) → b ≡ true → b ≡ false → A
 not_both b t f = absurd (false≢true (sym f ∙ t))
 
-violates_repeats : (n : ℕ) (c : Counts) → (violates n c).repeats ≡ c.repeats
-violates_repeats zero c = refl
-violates_repeats (suc n) c = refl
+store_repeats : (n : ℕ) (had : Bool) (c : Counts) → (counts_store n had c).repeats ≡ c.repeats
+store_repeats zero false c = refl
+store_repeats zero true c = refl
+store_repeats (suc n) had c = refl
 
-module _ {σ : Type 0} (c : Course σ) (entry : Store) (independent : IsIndependent c.region entry) where
-  quiet : IsQuiet c.region entry
-  quiet = independent_is_quiet c.region entry independent
-
+module _ {σ : Type 0} (c : Course σ) (entry : Store) (quiet : IsQuiet c.region entry) where
   -- the frame of a worker is its own
   abbrev Tagged : ℕ → Option (Running σ) → Type 0
   Tagged w None = Unit {0}
@@ -253,7 +251,7 @@ module _ {σ : Type 0} (c : Course σ) (entry : Store) (independent : IsIndepend
       abbrev Loaded : Option Token → Answer σ × Board σ → Type 0
       Loaded token p = (after_load c w d f token p.0 p.1).board.counts.abandons ≡ 0 → OnceWorld (after_load c w d f token p.0 p.1)
 
-      load_found : (token : Option Token) (a : ℕ) (next : ℤ → σ) (need : f.need ≡ ForLoad a) (asks : c.region.ask f.here ≡ Loads a next) (unwritten : look f.writes a ≡ None) (unmarked : look f.marks a ≡ None) (z : Found) → LoadKept c.region entry d.board.head d.board.store d.board.text independent d.running w y is f same token true_frame.tracked c.capacities.marks a next need asks unwritten unmarked d.board.head z d.board.active → Runs d.board → Loaded token (board_load w f.attempt a d.board z)
+      load_found : (token : Option Token) (a : ℕ) (next : ℤ → σ) (need : f.need ≡ ForLoad a) (asks : c.region.ask f.here ≡ Loads a next) (unwritten : look f.writes a ≡ None) (unmarked : look f.marks a ≡ None) (z : Found) → LoadKept c.region entry d.board.head d.board.store d.board.text quiet d.running w y is f same token true_frame.tracked c.capacities.marks a next need asks unwritten unmarked d.board.head z d.board.active → Runs d.board → Loaded token (board_load w f.attempt a d.board z)
       load_found token a next need asks unwritten unmarked (Known v) k runs n = absurd k
       load_found token a next need asks unwritten unmarked (New v) k runs n =
           moved (Some (record { frame = loaded c.region.ask c.capacities.marks v f; token = token })) _ (loaded_worker c.region.ask f c.capacities.marks v ∙ tag)
@@ -272,7 +270,7 @@ module _ {σ : Type 0} (c : Course σ) (entry : Store) (independent : IsIndepend
           (λ runs.
           let run = runs_on c.region entry d.board.exit d.board.is_spent runs in
           load_found token a needed.0 need needed.1 needed.2 needed.3 (found c.capacities.marks w f.attempt a (d.board.store a) d.board.active)
-          (load_once c.region entry d.board.head d.board.store d.board.text independent d.running w y is f same token true_frame.tracked c.capacities.marks a needed.0 need needed.1 needed.2 needed.3 d.board.head d.board.store d.board.active (omega arith) (h.once).distinct ((h.once).links runs) (h.once).facts
+          (load_once c.region entry d.board.head d.board.store d.board.text quiet d.running w y is f same token true_frame.tracked c.capacities.marks a needed.0 need needed.1 needed.2 needed.3 d.board.head d.board.store d.board.active (omega arith) (h.once).distinct ((h.once).links runs) (h.once).facts
           (anchored d.board d.board.active refl run true_world.board (h.once).facts) (clean d.board run true_world.board) (λ _. refl))
           runs)
 
@@ -280,10 +278,10 @@ module _ {σ : Type 0} (c : Course σ) (entry : Store) (independent : IsIndepend
       abbrev Stored : Option Token → Answer σ × Board σ → Type 0
       Stored token p = (after_write c w d f token p.0 p.1).board.counts.abandons ≡ 0 → OnceWorld (after_write c w d f token p.0 p.1)
 
-      store_written : (token : Option Token) (a : ℕ) (v : ℤ) (next : σ) (need : f.need ≡ ForStore a v) (asks : c.region.ask f.here ≡ Stores a v next) (z : Written) → StoreKept c.region entry d.board.head d.board.store d.board.text independent d.running w y is f same token true_frame.tracked c.capacities.buffer a v next need asks d.board.head z d.board.active → Runs d.board → Stored token (board_store w f.attempt a v d.board z)
-      store_written token a v next need asks (Restarts m) k runs n =
+      store_written : (token : Option Token) (a : ℕ) (v : ℤ) (next : σ) (need : f.need ≡ ForStore a v) (asks : c.region.ask f.here ≡ Stores a v next) (z : Written) → StoreKept c.region entry d.board.head d.board.store d.board.text quiet d.running w y is f same token true_frame.tracked c.capacities.buffer a v next need asks d.board.head z d.board.active → Runs d.board → Stored token (board_store w f.attempt a v d.board z)
+      store_written token a v next need asks (Restarts m had) k runs n =
           moved (Some (record { frame = stored c.region.ask c.capacities.buffer f; token = token })) _ (stored_worker c.region.ask f c.capacities.buffer ∙ tag)
-          (once_with d.running _ d.board (with_write w f.attempt a v d.board.active) d.board.is_out d.board.is_spent (violates m d.board.counts) (violates_repeats m d.board.counts) (λ _. k.0)
+          (once_with d.running _ d.board (with_write w f.attempt a v d.board.active) d.board.is_out d.board.is_spent (counts_store m had d.board.counts) (store_repeats m had d.board.counts) (λ _. k.0)
           (subst Distinct (sym (write_workers w f.attempt a v d.board.active)) (h.once).distinct) k.1 h.once)
       store_written token a v next need asks BufferFull k runs n =
           let s = same_then y.frame f (holds f) same (holds_same c.region.ask f) in
@@ -299,7 +297,7 @@ module _ {σ : Type 0} (c : Course σ) (entry : Store) (independent : IsIndepend
           (λ runs.
           let run = runs_on c.region entry d.board.exit d.board.is_spent runs in
           store_written token a v needed.0 need needed.1 (written c.capacities.buffer w f.attempt a v d.board.active)
-          (store_once c.region entry d.board.head d.board.store d.board.text independent d.running w y is f same token true_frame.tracked c.capacities.buffer a v needed.0 need needed.1 d.board.head d.board.active (omega arith) (h.once).distinct ((h.once).links runs) (h.once).facts
+          (store_once c.region entry d.board.head d.board.store d.board.text quiet d.running w y is f same token true_frame.tracked c.capacities.buffer a v needed.0 need needed.1 d.board.head d.board.active (omega arith) (h.once).distinct ((h.once).links runs) (h.once).facts
           (anchored d.board d.board.active refl run true_world.board (h.once).facts))
           runs)
 

@@ -10,11 +10,11 @@ use Rattle.hx_speculation.specs.Iteration.{Store, Ask, Goes, Loads, Stores, Prin
 use Rattle.hx_speculation.specs.Replay.{Course, replayed, world_at}
 use Rattle.hx_speculation.proofs.Stores.{eq_true, eq_same}
 
-abbrev nat_of : ℤ → ℕ
+abbrev pub nat_of : ℤ → ℕ
 nat_of (pos n) = n
 nat_of (negsuc n) = 0
 
-abbrev full : Fault
+abbrev pub full : Fault
 full = record { kind = TextFull; pos = record { line = 1; col = 1 } }
 
 abbrev pub zeros : Store
@@ -42,7 +42,7 @@ shows c schedule a =
 
 abbrev pub counted : (turns repeats violations restarts holds : ℕ) → Counts
 counted turns repeats violations restarts holds =
-    record { regions = 1; turns = turns; repeats = repeats; violations = violations; restarts = restarts; holds = holds; abandons = 0; discarded = 0 }
+    record { regions = 1; turns = turns; repeats = repeats; violations = violations; restarts = restarts; holds = holds; abandons = 0; discarded = 0; spared = 0 }
 
 -- while (c < 2) c = c + 1
 abbrev pub counting : ℕ → Ask ℕ
@@ -62,6 +62,49 @@ two_workers = refl
 -- after the first five entries
 violated : shows (course counting 512 64) (0 ∷ 1 ∷ 0 ∷ 1 ∷ 0 ∷ []) 0 ≡ record { exit = None; text = []; word = pos 0; counts = counted 0 0 1 1 0 }
 violated = refl
+
+-- iterations that begin at different states
+abbrev from_each : Course ℕ → (ℕ → ℕ) → Course ℕ
+from_each c opening = record c { region = record c.region { opening = opening } }
+
+-- for (i = 0; i < 2; i++) { if (i == 0) d = 0; else print(d); }, where d is word 0, and i no word
+abbrev pub printing : ℕ → Ask ℕ
+printing q =
+    if q == 0 then Stores 0 (pos 0) 2
+    else if q == 1 then Loads 0 (λ v. 100 + nat_of v)
+    else if q == 2 then TurnEnds
+    else if q == 3 then Leaves
+    else Prints ((q - 100) ∷ []) 2 full
+
+abbrev pub printer : Course ℕ
+printer = from_each (course printing 512 64) (λ j. if j == 0 then 0 else if j == 1 then 1 else 3)
+
+-- worker 1 has read d when worker 0 writes what it has been
+equal_store : shows printer (0 ∷ 1 ∷ 1 ∷ 0 ∷ 1 ∷ 0 ∷ 0 ∷ 1 ∷ 1 ∷ 1 ∷ 0 ∷ 0 ∷ 0 ∷ []) 0
+    ≡ record { exit = Some Left; text = 0 ∷ []; word = pos 0; counts = record (counted 2 0 0 0 0) { spared = 1 } }
+equal_store = refl
+
+-- for (i = 0; i < 3; i++) { if (i < 2) d = i + 4; else print(d); }
+abbrev covering : ℕ → Ask ℕ
+covering q =
+    if q == 0 then Stores 0 (pos 4) 5
+    else if q == 1 then Stores 0 (pos 5) 5
+    else if q == 2 then Loads 0 (λ v. 100 + nat_of v)
+    else if q == 3 then Leaves
+    else if q == 5 then TurnEnds
+    else Prints ((q - 100) ∷ []) 5 full
+
+abbrev pub coverer : Course ℕ
+coverer = from_each (course covering 512 64) (λ j. if nat_lt j 3 then j else 3)
+
+-- worker 2 has read what worker 1 wrote when worker 0 writes
+covered_store : shows coverer (0 ∷ 1 ∷ 2 ∷ 1 ∷ 2 ∷ 0 ∷ 0 ∷ 0 ∷ 1 ∷ 1 ∷ 2 ∷ 2 ∷ 2 ∷ 0 ∷ 0 ∷ 0 ∷ []) 0
+    ≡ record { exit = Some Left; text = 5 ∷ []; word = pos 5; counts = record (counted 3 0 0 0 0) { spared = 1 } }
+covered_store = refl
+
+-- where worker 2 reads first, the store of worker 1 restarts it
+early_read : shows coverer (0 ∷ 1 ∷ 2 ∷ 2 ∷ 1 ∷ []) 0 ≡ record { exit = None; text = []; word = pos 0; counts = counted 0 0 1 1 0 }
+early_read = refl
 
 -- while (c < 2) { a = a + 1; print(a); b = b + a; print(b); c = c + 1; }, where a, b and c are words 0, 1 and 2
 abbrev holding_at : ℕ → ℕ → Ask ℕ

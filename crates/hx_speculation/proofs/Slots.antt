@@ -1,12 +1,16 @@
 -- What the calls do to the active iterations, in order from the head.
 use Rattle.std.proofs.Common.{◌≡◌, ◌≢◌, ℕ, suc, ℤ, ◌+◌, ◌⊎◌, inl, inr, Bool, true, false, ◌==◌, List, [], ◌∷◌, ◌++◌, length, map, Option, Some, None, refl, sym, ap, ◌∙◌, subst, arith, add-zero}
-use Rattle.std.specs.Prelude.{nat_le, if◌then◌else◌}
+use Rattle.std.specs.Prelude.{not, nat_le, if◌then◌else◌}
+use Rattle.std.specs.Ordering.{int_eq}
+use Rattle.std.specs.Bool.{Decides}
+use Rattle.std.proofs.lemmas.Bool.{false≢true}
+use Rattle.std.proofs.lemmas.Bool.Decides.{Decides-int_eq}
 use Rattle.hx_marks.specs.Table.{Table, look, put}
 use Rattle.hx_marks.proofs.Tables.{look_put_own, look_put_other}
 use Rattle.hx_buffer.specs.Overlay.{or_else}
 use Rattle.hx_speculation.specs.Iteration.{Store, overlay, Agrees}
 use Rattle.hx_speculation.specs.Region.{Region}
-use Rattle.hx_speculation.specs.Slots.{Slot, first_attempt, is_at, restarted, New, MarksFull, finds_seen, finds_own, found, with_mark, is_violated, squashed, with_write, restarted_from}
+use Rattle.hx_speculation.specs.Slots.{Slot, first_attempt, is_at, restarted, New, MarksFull, finds_seen, finds_own, found, with_mark, differs, is_violated, squashed, with_write, restarted_from}
 use Rattle.hx_speculation.specs.Sound.{head_start, AreOpening, RestIsOpening, MarksAreSeen, starts_of}
 use Rattle.hx_speculation.proofs.Stores.{if_cases, overlay_hit, same_or_not, overlay_but, agrees_nil, agrees_put}
 
@@ -52,11 +56,21 @@ restart_seen s (x ∷ xs) = (agrees_nil s, restart_seen (overlay [] s) xs)
 
 -- ---- store
 
+not_other : (v u : ℤ) → differs (Some v) u ≡ false → v ≡ u
+not_other v u k = same (int_eq v u) (Decides-int_eq v u) k
+  where
+    same : (t : Bool) → Decides t (v ≡ u) → not t ≡ false → v ≡ u
+    same true d h = d.0 refl
+    same false d h = absurd (false≢true (sym h))
+
+pub is_other : (v u : ℤ) → differs (Some v) u ≡ true → v ≢ u
+is_other v u k e = false≢true (sym (ap not ((Decides-int_eq v u).1 e)) ∙ k)
+
 -- the violation rule is used here alone: where it spares an iteration, its mark of `a` is what it sees after the write
 unviolated_agrees_at : {σ : Type 0} (a b : ℕ) (w : ℤ) (s u : Store) (x : Slot σ) → is_violated a (u a) x ≡ false → ((c : ℕ) → c ≢ a → s c ≡ u c) → Agrees s x.marks → (b ≡ a) ⊎ (b ≢ a) → look x.marks b ≡ Some w → u b ≡ w
 unviolated_agrees_at a b w s u x k d h (inl e) g =
     let there : look x.marks a ≡ Some w = ap (look x.marks) (sym e) ∙ g in
-    absurd (cc (k, there))
+    ap u e ∙ sym (not_other w (u a) (ap (λ o. differs o (u a)) (sym there) ∙ k))
 unviolated_agrees_at a b w s u x k d h (inr n) g = sym (d b n) ∙ h b w g
 
 unviolated_agrees : {σ : Type 0} (a : ℕ) (s u : Store) (x : Slot σ) → is_violated a (u a) x ≡ false → ((b : ℕ) → b ≢ a → s b ≡ u b) → Agrees s x.marks → Agrees u x.marks

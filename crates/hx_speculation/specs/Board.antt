@@ -86,12 +86,15 @@ after_load w attempt a b LoadLost = (Squashed, b)
 
 -- ---- store
 
-abbrev pub violates : ℕ → Counts → Counts
-violates zero c = c
-violates (suc n) c = record c { violations = held (c.violations + 1); restarts = held (c.restarts + suc n) }
+-- what is counted of a store that is done: so many iterations begin again; or none does, and where a later one had marked the word,
+-- that one is spared
+abbrev pub counts_store : ℕ → Bool → Counts → Counts
+counts_store zero false c = c
+counts_store zero true c = record c { spared = held (c.spared + 1) }
+counts_store (suc n) had_readers c = record c { violations = held (c.violations + 1); restarts = held (c.restarts + suc n) }
 
 abbrev pub after_store : {σ : Type 0} → ℕ → ℕ → ℕ → ℤ → Board σ → Written → Answer σ × Board σ
-after_store w attempt a v b (Restarts n) = (Done, record b { active = with_write w attempt a v b.active; counts = violates n b.counts })
+after_store w attempt a v b (Restarts n had_readers) = (Done, record b { active = with_write w attempt a v b.active; counts = counts_store n had_readers b.counts })
 after_store w attempt a v b BufferFull = (Full, record b { counts = record b.counts { holds = held (b.counts.holds + 1) } })
 after_store w attempt a v b NumbersEnd = spends b
 after_store w attempt a v b StoreLost = (Squashed, b)
@@ -224,5 +227,5 @@ opened entry =
       exit = None;
       is_out = false;
       is_spent = false;
-      counts = record { regions = 1; turns = 0; repeats = 0; violations = 0; restarts = 0; holds = 0; abandons = 0; discarded = 0 };
+      counts = record { regions = 1; turns = 0; repeats = 0; violations = 0; restarts = 0; holds = 0; abandons = 0; discarded = 0; spared = 0 };
     }

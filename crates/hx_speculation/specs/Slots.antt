@@ -1,5 +1,6 @@
 -- The active iterations of a board, in order from the head.
-use Rattle.std.specs.Prelude.{ℕ, suc, ◌^◌, ℤ, List, [], ◌∷◌, length, map, Option, Some, None, Bool, true, ◌&&◌, nat_lt, nat_le, ◌==◌, is_some, if◌then◌else◌}
+use Rattle.std.specs.Prelude.{ℕ, suc, ◌^◌, ℤ, List, [], ◌∷◌, length, map, Option, Some, None, Bool, true, false, ◌&&◌, ◌||◌, not, is_some, nat_lt, nat_le, ◌==◌, if◌then◌else◌}
+use Rattle.std.specs.Ordering.{int_eq}
 use Rattle.hx_marks.specs.Table.{Table, look, put}
 use Rattle.hx_buffer.specs.Overlay.{or_else}
 use Rattle.hx_speculation.specs.Frame.{is_full}
@@ -67,9 +68,14 @@ with_mark w attempt a v (x ∷ xs) =
 
 -- ---- store
 
--- a write of the word restarts an iteration that has marked it; u is what it sees there now
+-- what was read of a word isn't this value; a word that wasn't read is never another
+abbrev pub differs : Option ℤ → ℤ → Bool
+differs None u = false
+differs (Some v) u = not (int_eq v u)
+
+-- a write of the word restarts an iteration whose mark of it isn't u, which is what it sees there now
 abbrev pub is_violated : {σ : Type 0} → ℕ → ℤ → Slot σ → Bool
-is_violated a u x = is_some (look x.marks a)
+is_violated a u x = differs (look x.marks a) u
 
 -- the first violated one and all after it
 abbrev pub violated : {σ : Type 0} → ℕ → ℤ → List (Slot σ) → List (Slot σ)
@@ -81,10 +87,15 @@ abbrev pub squashed : {σ : Type 0} → ℕ → ℤ → List (Slot σ) → List 
 squashed a u [] = []
 squashed a u (x ∷ xs) = if is_violated a u x then map restarted (x ∷ xs) else x ∷ squashed a (or_else (look x.buffer a) u) xs
 
--- what a write comes to: done, with so many iterations that begin again; no room for the word; an attempt's number that would
--- pass 64 bits; or no such attempt
+-- one of these has marked the word
+abbrev pub is_marked : {σ : Type 0} → ℕ → List (Slot σ) → Bool
+is_marked a [] = false
+is_marked a (x ∷ xs) = is_some (look x.marks a) || is_marked a xs
+
+-- what a write comes to: done, with so many iterations that begin again, and whether a later one had marked the word; no room for
+-- the word; an attempt's number that would pass 64 bits; or no such attempt
 pub data Written : Type 0 where
-  Restarts : (count : ℕ) → Written
+  Restarts : (count : ℕ) → (had_readers : Bool) → Written
   BufferFull : Written
   NumbersEnd : Written
   StoreLost : Written
@@ -92,7 +103,7 @@ pub data Written : Type 0 where
 abbrev pub writes_own : {σ : Type 0} → ℕ → ℕ → ℤ → Slot σ → List (Slot σ) → Written
 writes_own capacity a v x later =
     if is_full capacity x.buffer a then BufferFull else
-    if may_restart (violated a v later) then Restarts (length (violated a v later)) else
+    if may_restart (violated a v later) then Restarts (length (violated a v later)) (is_marked a later) else
     NumbersEnd
 
 abbrev pub written : {σ : Type 0} → ℕ → ℕ → ℕ → ℕ → ℤ → List (Slot σ) → Written

@@ -52,6 +52,6 @@ Wrote {σ} r entry j a v = (q : σ) × (s : Store) × (text : List ℕ) × (next
 abbrev pub IsIndependent : {σ : Type 0} → Region σ → Store → Type 0
 IsIndependent r entry = (i j a : ℕ) (v : ℤ) → i < j → Wrote r entry i a v → Exposed r entry j a → ⊥
 
--- what earlier turns wrote in such a word is what the entry has there
+-- what earlier turns write in a word that a turn reads before it writes it is what the entry has there
 abbrev pub IsQuiet : {σ : Type 0} → Region σ → Store → Type 0
 IsQuiet r entry = (i j a : ℕ) (v : ℤ) → i < j → Wrote r entry i a v → Exposed r entry j a → v ≡ entry a

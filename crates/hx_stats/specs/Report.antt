@@ -20,13 +20,13 @@ abbrev pub end_line : End → List ℕ
 end_line (end.Normal v) = codes "end normal " ++ signed_decimal v ++ 10 ∷ []
 end_line (end.Fault f) = codes "end " ++ fault_text f ++ 10 ∷ []
 
--- the lines from `turns` to `discarded`
+-- the lines from `turns` to `spared`
 abbrev pub count_lines : Counts → List ℕ
 count_lines c =
     count_line (codes "turns ") c.turns ++ count_line (codes "repeats ") c.repeats
     ++ count_line (codes "violations ") c.violations ++ count_line (codes "restarts ") c.restarts
     ++ count_line (codes "holds ") c.holds ++ count_line (codes "abandons ") c.abandons
-    ++ count_line (codes "discarded ") c.discarded
+    ++ count_line (codes "discarded ") c.discarded ++ count_line (codes "spared ") c.spared
 
 -- THE report
 abbrev pub report_of : Finish → List ℕ

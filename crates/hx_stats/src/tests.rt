@@ -18,6 +18,7 @@ fn report_of_end(alloc: Global, end: End, turns: u64) -> Result<Vec<u8>, AllocEr
         holds: 0,
         abandons: 0,
         discarded: 0,
+        spared: 0,
     };
     let outcome = Outcome {
         text: Vec::new(alloc),
@@ -32,7 +33,7 @@ fn tells_a_normal_end(rt: HostRuntime) -> Result<(), Fail> {
     let text = report_of_end(rt.alloc(), End::Normal(0), 2)?;
     assert_eq!(rt;
         text.as_slice(),
-        b"end normal 0\nregions 1\nturns 2\nrepeats 0\nviolations 0\nrestarts 0\nholds 0\nabandons 0\ndiscarded 0\n".as_slice()
+        b"end normal 0\nregions 1\nturns 2\nrepeats 0\nviolations 0\nrestarts 0\nholds 0\nabandons 0\ndiscarded 0\nspared 0\n".as_slice()
     );
     Ok(())
 }
@@ -46,7 +47,7 @@ fn tells_a_fault_and_its_place(rt: HostRuntime) -> Result<(), Fail> {
     let text = report_of_end(rt.alloc(), End::Fault(fault), 4)?;
     assert_eq!(rt;
         text.as_slice(),
-        b"end fault 2 at 1:46\nregions 1\nturns 4\nrepeats 0\nviolations 0\nrestarts 0\nholds 0\nabandons 0\ndiscarded 0\n".as_slice()
+        b"end fault 2 at 1:46\nregions 1\nturns 4\nrepeats 0\nviolations 0\nrestarts 0\nholds 0\nabandons 0\ndiscarded 0\nspared 0\n".as_slice()
     );
     Ok(())
 }

@@ -7,7 +7,7 @@ use hx_tree::outcome::{Counts, End, Fault, Finish};
 use itoa::{Buffer, Integer};
 use std::alloc::{AllocError, Global};
 
-/// The report of a finish: its end, and its eight counts, each on a line of its own. Numbers are in decimal. An `Err` means
+/// The report of a finish: its end, and its nine counts, each on a line of its own. Numbers are in decimal. An `Err` means
 /// that an allocation was refused.
 pub fn report(alloc: Global, finish: &Finish) -> Result<Vec<u8>, AllocError>
     ensures { IfOk result (λ text. text.items ≡ report_of finish.now) }
@@ -19,7 +19,7 @@ pub fn report(alloc: Global, finish: &Finish) -> Result<Vec<u8>, AllocError>
     Ok(text)
 }
 
-/// Puts the lines of the counts from `turns` to `discarded` behind the text. An `Err` means that an allocation was refused,
+/// Puts the lines of the counts from `turns` to `spared` behind the text. An `Err` means that an allocation was refused,
 /// and says nothing of the text.
 pub fn put_counts(text: &mut Vec<u8>, counts: &Counts) -> Result<(), AllocError>
     ensures { OnOk result (text.new.items ≡ text.old.items ++ count_lines counts.now) }
@@ -30,7 +30,8 @@ pub fn put_counts(text: &mut Vec<u8>, counts: &Counts) -> Result<(), AllocError>
     put_count(text, b"restarts ", counts.restarts)?;
     put_count(text, b"holds ", counts.holds)?;
     put_count(text, b"abandons ", counts.abandons)?;
-    put_count(text, b"discarded ", counts.discarded)
+    put_count(text, b"discarded ", counts.discarded)?;
+    put_count(text, b"spared ", counts.spared)
 }
 
 /// Puts `fault K at L:C` behind the text: the fault's number, its line and its column. An `Err` means that an allocation was

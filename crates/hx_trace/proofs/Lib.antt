@@ -1,5 +1,9 @@
 pub mod Attempts
 pub mod Tokens
+pub mod Events
+pub mod Texts
+pub mod EventRows
+pub mod Forwarding
 pub mod Turns
 pub mod Worlds
 pub mod Plainly

@@ -39,7 +39,7 @@ module _ (r : Region LocalView) (caps : Capacities) (t : Token) (b : Board Local
   out_load w attempt a = by_call (Load w attempt a) (λ _. load_out w attempt a (found caps.marks w attempt a (b.store a) b.active))
 
   store_out : (w attempt a : ℕ) (v : ℤ) (x : Written) → has_ended b.exit b.is_spent ≡ false → StaysOut (after_store w attempt a v b x)
-  store_out w attempt a v (Restarts n) e = record { out = k.out; least = least_write t.attempt t.worker b.head w attempt a v b.active k.least }
+  store_out w attempt a v (Restarts n had) e = record { out = k.out; least = least_write t.attempt t.worker b.head w attempt a v b.active k.least }
   store_out w attempt a v BufferFull e = record { out = k.out; least = k.least }
   store_out w attempt a v NumbersEnd e = past_numbers e
   store_out w attempt a v StoreLost e = k

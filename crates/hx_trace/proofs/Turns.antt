@@ -81,6 +81,10 @@ stay_load b after w attempt a answer d = stay_by b after answer _ d.step (λ t k
 pub stay_store : (b after : BoardView) (w attempt a : ℕ) (v : ℤ) (answer : Answer LocalView) → Does b (Write w attempt a v) answer after → StayOut b after
 stay_store b after w attempt a v answer d = stay_by b after answer _ d.step (λ t k. out_store (region_on b.setup) b.setup.capacities t (board_of b) k w attempt a v)
 
+-- the token by another name
+pub renamed : (entry : World LocalView → World LocalView) (w : ℕ) (b after : BoardView) (token next new : Option Token) (x : Worker) → new ≡ next → Moves entry w b token after x next → Moves entry w b token after x new
+renamed entry w b after token next new x is m = subst (λ t. Moves entry w b token after x t) (sym is) m
+
 -- ---- load and store
 
 module _ (w : ℕ) (b after : BoardView) (x : Worker) (token : Option Token) (own : IsOwnFrame b.setup x.frame) (runs : x.is_running ≡ true) (hand : IsInHand w b x token) where

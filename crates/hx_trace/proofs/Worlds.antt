@@ -12,7 +12,9 @@ use Rattle.hx_board.specs.Calls.{IsOwnFrame}
 use Rattle.hx_trace.specs.declared.worker.Worker.{Worker}
 use Rattle.hx_trace.specs.declared.worker.Held.{Held}
 use Rattle.hx_trace.specs.Tokens.{IsOutOf}
-use Rattle.hx_trace.specs.Turns.{course_of, running_of, IsOwnToken, IsInHand, Moves, token_at, running_at, world_of, IsHeldBy, MayBeHeld, Keeps}
+use Rattle.hx_trace.specs.declared.event.Event.{Event}
+use Rattle.hx_trace.specs.Events.{event_of}
+use Rattle.hx_trace.specs.Turns.{course_of, running_of, IsOwnToken, IsInHand, Moves, token_at, running_at, world_of, held_at, IsHeldBy, MayBeHeld, Keeps}
 
 -- ---- a list with another item at a place
 
@@ -134,6 +136,11 @@ other_after w h other v = by (v == w) refl
 pub there : (xs : List Worker) (n : ℕ) (d : Worker) (slots : ℕ) → length xs ≡ slots → n < slots → slice_get xs n ≡ Some (slice_index_or xs n d)
 there xs n d slots many lt = slice_get-get_or xs n d (omega (arith, many, lt))
 
+-- what the entry came to
+pub told_at : (w : ℕ) (b : BoardView) (xs : List Worker) (x : Worker) (held : Option Held) (token : Option Token) (e : Event) → slice_get xs w ≡ Some x → token_at held w ≡ token → e ≡ event_of (course_of b.setup) w (board_of b) (running_of x token) → e ≡ event_of (course_of b.setup) w (board_of b) ((world_of b xs held).running w)
+told_at w b xs x held token e at is told =
+    told ∙ sym (ap (λ o. event_of (course_of b.setup) w (board_of b) (running_at o (token_at held w))) at ∙ ap (λ t. event_of (course_of b.setup) w (board_of b) (running_of x t)) is)
+
 pub record Turns (w : ℕ) (b after : BoardView) (xs : List Worker) (y : Worker) (held new : Option Held) : Type 0 where
   pub step : entry_of (course_of b.setup) w (world_of b xs held) (running_at (slice_get xs w) (token_at held w)) ≡ world_of after (slice_set xs w y) new
   pub keeps : Keeps after (slice_set xs w y) new
@@ -186,3 +193,19 @@ module _ (w : ℕ) (b after : BoardView) (xs : List Worker) (x y : Worker) (resu
       let held_on = other_held w b after xs x y (Some h) None at within h other k0.held out.1 in
       let whole = both (Some h) (Some h) None None k0 (other_at w h other) (subst (By None) out.0 m) (other_after w h other) held_on in
       subst (λ o. Turns w b after xs y o (Some new)) (sym was) (subst (λ (n : Held). Turns w b after xs y (Some h) (Some n)) (sym same) whole)
+
+  -- by what the entry answers
+
+  pub none_turns : (held new : Option Held) → held ≡ None → new ≡ held_at w result → Keeps b xs held → By None result → Turns w b after xs y held new
+  none_turns held new was is k m = subst (Turns w b after xs y held) (sym is) (by result refl)
+    where
+      by : (r : Option Token) → result ≡ r → Turns w b after xs y held (held_at w r)
+      by None none = none_stays held was none k m
+      by (Some t) some = none_gives held (record { worker = w; head = t }) was refl some k m
+
+  pub own_turns : (held new : Option Held) (h : Held) → held ≡ Some h → h.worker ≡ w → new ≡ held_at w result → Keeps b xs held → By (Some h.head) result → Turns w b after xs y held new
+  own_turns held new h was mine is k m = subst (Turns w b after xs y held) (sym is) (by result refl)
+    where
+      by : (r : Option Token) → result ≡ r → Turns w b after xs y held (held_at w r)
+      by None none = own_spends held h was mine none k m
+      by (Some t) some = own_gives held h (record { worker = w; head = t }) was mine refl some k m

@@ -8,7 +8,7 @@ use Rattle.hx_word.specs.Laws.{begun_from}
 use Rattle.hx_frame.specs.declared.frame.Capacities.{Capacities}
 use Rattle.hx_regions.specs.Region.{store_of, region_in}
 use Rattle.hx_speculation.specs.Region.{Region}
-use Rattle.hx_speculation.specs.Watch.{IsIndependent}
+use Rattle.hx_speculation.specs.Watch.{IsIndependent, IsQuiet}
 use Rattle.hx_word.specs.Entry.{padded}
 use Rattle.hx_speculation.specs.Board.{Board}
 use Rattle.hx_speculation.specs.Replay.{replayed, world_at}
@@ -16,11 +16,17 @@ use Rattle.hx_board.specs.Board.{BoardView, rooms_of, opening_board}
 use Rattle.hx_board.specs.Ends.{state_of}
 use Rattle.hx_trace.specs.declared.trace.Trace.{Trace}
 use Rattle.hx_trace.specs.declared.worker.Worker.{Worker}
+use Rattle.hx_trace.specs.declared.event.Event.{Event}
 use Rattle.hx_trace.specs.Turns.{course_of}
+use Rattle.hx_trace.specs.Events.{events_of}
 
 -- the board that a schedule leads to, by the definition, from an entry on which nothing has run
 abbrev pub board_after : CodeView → ℕ → Entry → ℕ → Capacities → List ℕ → Board LocalView
 board_after code region e slots rooms schedule = (replayed (course_of (opening_board code region e slots rooms).setup) schedule (world_at (store_of e.store.items))).board
+
+-- the events of a schedule, by the definition, from the same entry
+abbrev pub events_from : CodeView → ℕ → Entry → ℕ → Capacities → List ℕ → List Event
+events_from code region e slots rooms schedule = events_of (course_of (opening_board code region e slots rooms).setup) schedule (world_at (store_of e.store.items))
 
 -- one thread's region of this code from this entry
 abbrev pub region_from : CodeView → ℕ → Entry → Region LocalView
@@ -29,6 +35,10 @@ region_from code region e = region_in code (record { region = region; below = e.
 -- none of its turns reads, before it writes it, a word that an earlier turn wrote
 abbrev pub IsIndependentFrom : CodeView → ℕ → Entry → Type 0
 IsIndependentFrom code region e = IsIndependent (region_from code region e) (store_of e.store.items)
+
+-- what earlier turns write in a word that a turn reads before it writes it is what the entry has there
+abbrev pub IsQuietFrom : CodeView → ℕ → Entry → Type 0
+IsQuietFrom code region e = IsQuiet (region_from code region e) (store_of e.store.items)
 
 -- a trace tells a board's store, text, state and counts
 pub record IsTraceOf (b : Board LocalView) (t : Trace) : Type 0 where

@@ -49,6 +49,11 @@ running_at (Some x) token = running_of x token
 abbrev pub world_of : BoardView → List Worker → Option Held → World LocalView
 world_of b xs held = record { board = board_of b; running = λ w. running_at (slice_get xs w) (token_at held w) }
 
+-- a worker with this token, if it has one
+abbrev pub held_at : ℕ → Option Token → Option Held
+held_at w None = None
+held_at w (Some t) = Some (record { worker = w; head = t })
+
 -- the token is this worker's, and of an iteration that runs
 pub record IsHeldBy (b : BoardView) (xs : List Worker) (h : Held) : Type 0 where
   pub own : h.head.worker ≡ h.worker

@@ -3,9 +3,14 @@
 #![tactic(auto)]
 
 mod answers;
+pub mod event;
+mod sources;
+mod telling;
 mod text;
 mod trace;
 mod worker;
 
+pub use event::{Deed, Event, Source};
+pub use telling::{Called, put_name, put_printed, told_listing};
 pub use text::listing;
-pub use trace::{Trace, TraceError, replay};
+pub use trace::{Told, Trace, TraceError, replay, replay_told};

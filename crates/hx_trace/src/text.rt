@@ -10,14 +10,22 @@ use itoa::Buffer;
 use std::alloc::{AllocError, Global};
 
 /// The text of a trace: what is settled of the region's own text, a line for its state, and the lines of the counts from `turns` to
-/// `discarded`. Numbers are in decimal. An `Err` means that an allocation was refused.
+/// `spared`. Numbers are in decimal. An `Err` means that an allocation was refused.
 pub fn listing(alloc: Global, trace: &Trace) -> Result<Vec<u8>, AllocError>
     ensures { IfOk result (λ text. text.items ≡ listing_of trace.now) }
 {
-    let mut text = Vec::from_slice(alloc, &trace.text)?;
-    put_state(&mut text, trace.state)?;
-    put_counts(&mut text, &trace.counts)?;
+    let mut text = Vec::new(alloc);
+    put_trace(&mut text, trace)?;
     Ok(text)
+}
+
+/// Puts the listing of a trace behind the text. An `Err` means that an allocation was refused, and says nothing of the text.
+pub(crate) fn put_trace(text: &mut Vec<u8>, trace: &Trace) -> Result<(), AllocError>
+    ensures { OnOk result (text.new.items ≡ text.old.items ++ listing_of trace.now) }
+{
+    text.extend_from_slice(&trace.text)?;
+    put_state(text, trace.state)?;
+    put_counts(text, &trace.counts)
 }
 
 fn put_state(text: &mut Vec<u8>, state: State) -> Result<(), AllocError>

@@ -1,23 +1,32 @@
 // A replay of a schedule.
 
-ghost use Rattle.std.specs.Prelude.{◌≡◌, ◌<◌, length, All, IfOk, IsTrue, ◌↔◌, Err, None};
+ghost use Rattle.std.specs.Prelude.{◌≡◌, ◌<◌, ◌≤◌, [], length, vec_capacity, All, IfOk, IsTrue, ◌↔◌, Err, None};
 ghost use Rattle.hx_word.specs.Entry.{EntryFits};
 ghost use Rattle.hx_speculation.specs.Replay.{entry_of, replayed};
 ghost use Rattle.hx_board.specs.Board.{board_of};
-ghost use Rattle.hx_trace.specs.Turns.{course_of, world_of, Keeps};
+ghost use Rattle.hx_trace.specs.Turns.{course_of, held_at, world_of, Keeps};
 ghost use Rattle.hx_trace.specs.declared.trace.TraceError.TheVariants.{NoSuchWorker};
 ghost use Rattle.hx_trace.specs.Refused.{number_of};
-ghost use Rattle.hx_trace.specs.Trace.{board_after, IsTraceOf, IsIndependentFrom, ShowsPlain, IsTold, IsNew};
+ghost use Rattle.hx_trace.specs.Events.{event_of, events_of};
+ghost use Rattle.hx_trace.specs.Trace.{board_after, events_from, IsTraceOf, IsIndependentFrom, IsQuietFrom, ShowsPlain, IsTold, IsNew};
 
 use crate::answers::{enter, spend};
+use crate::event::Event;
 use crate::worker::{Held, Worker};
-use hx_board::{Board, Job, State};
+use hx_board::{Board, Head, Job, State};
 use hx_code::code::Code;
 use hx_frame::{Capacities, Frame};
 use hx_tree::outcome::Counts;
 use hx_word::entry::Entry;
 use std::alloc::{AllocError, Global};
 use thiserror::Error;
+
+/// A trace, and what each entry of its schedule came to.
+#[derive(Drop)]
+pub struct Told {
+    pub trace: Trace,
+    pub events: Vec<Event>,
+}
 
 /// What a schedule has led to: the committed store, the region's own text, how far the region is, and what was counted.
 #[derive(Drop)]
@@ -54,8 +63,8 @@ impl TraceError {
 /// Replays a schedule on a region from an entry, on one thread. Each entry of the schedule is a worker's number: a worker without a
 /// running frame asks the board for an iteration, and another runs a stretch of its frame and hands on what that stopped for.
 ///
-/// Where no turn of the loop reads, before it writes it, a word that an earlier turn wrote, no whole turn takes more than one attempt,
-/// unless a worker gave one up.
+/// Where what earlier turns of the loop write in a word that a turn reads before it writes it is what the entry has there, no whole turn
+/// takes more than one attempt, unless a worker gave one up; so too where earlier turns write no such word.
 ///
 /// `NoSuchWorker` exactly where an entry of the schedule is not below `slots`, however far the others would have come; `Memory` where an
 /// allocation was refused.
@@ -71,21 +80,40 @@ pub fn replay(
     requires { EntryFits code.now region entry.now }
     ensures told { IfOk result (λ t. IsTraceOf (board_after code.now region entry.now slots capacities schedule.now) t) }
     ensures plain { IfOk result (λ t. ShowsPlain code.now region entry.now t) }
-    ensures once { IfOk result (λ t. IsIndependentFrom code.now region entry.now → t.counts.abandons ≡ 0 → t.counts.repeats ≡ 0) }
+    ensures once { IfOk result (λ t. IsQuietFrom code.now region entry.now → t.counts.abandons ≡ 0 → t.counts.repeats ≡ 0) }
+    ensures alone { IfOk result (λ t. IsIndependentFrom code.now region entry.now → t.counts.abandons ≡ 0 → t.counts.repeats ≡ 0) }
+    ensures workers { (result ≡ Err NoSuchWorker) ↔ (All (λ w. w < slots) schedule.now → ⊥) }
+{
+    match replay_told(alloc, code, region, entry, slots, capacities, schedule) {
+        Ok(told) => Ok(told.trace),
+        Err(why) => Err(why),
+    }
+}
+
+/// Replays a schedule as `replay` does, and tells what each of its entries came to.
+///
+/// Refusals are those of `replay`.
+pub fn replay_told(
+    alloc: Global,
+    code: &Code,
+    region: u32,
+    entry: &Entry,
+    slots: u32,
+    capacities: Capacities,
+    schedule: &[u8],
+) -> Result<Told, TraceError>
+    requires { EntryFits code.now region entry.now }
+    ensures events { IfOk result (λ t. t.events.items ≡ events_from code.now region entry.now slots capacities schedule.now) }
+    ensures told { IfOk result (λ t. IsTraceOf (board_after code.now region entry.now slots capacities schedule.now) t.trace) }
+    ensures plain { IfOk result (λ t. ShowsPlain code.now region entry.now t.trace) }
     ensures workers { (result ≡ Err NoSuchWorker) ↔ (All (λ w. w < slots) schedule.now → ⊥) }
 {
     if !are_workers(schedule, slots) {
         return Err(TraceError::NoSuchWorker);
     }
-    match run(
-        alloc,
-        Job { code, region },
-        entry,
-        slots,
-        capacities,
-        schedule,
-    ) {
-        Ok(trace) => Ok(trace),
+    let job = Job { code, region };
+    match run(alloc, job, entry, slots, capacities, schedule) {
+        Ok(told) => Ok(told),
         Err(_) => Err(TraceError::Memory),
     }
 }
@@ -104,34 +132,51 @@ fn run(
     slots: u32,
     capacities: Capacities,
     schedule: &[u8],
-) -> Result<Trace, AllocError>
+) -> Result<Told, AllocError>
     requires fits { EntryFits job.code.now job.region entry.now }
     requires workers { All (λ w. w < slots) schedule.now }
-    ensures told { IfOk result (λ t. IsTraceOf (board_after job.entry.code.now job.entry.region entry.now slots capacities schedule.now) t) }
-    ensures plain { IfOk result (λ t. ShowsPlain job.entry.code.now job.entry.region entry.now t) }
+    ensures events { IfOk result (λ t. t.events.items ≡ events_from job.entry.code.now job.entry.region entry.now slots capacities schedule.now) }
+    ensures told { IfOk result (λ t. IsTraceOf (board_after job.entry.code.now job.entry.region entry.now slots capacities schedule.now) t.trace) }
+    ensures plain { IfOk result (λ t. ShowsPlain job.entry.code.now job.entry.region entry.now t.trace) }
 {
     let mut workers = new_workers(alloc, job.code, slots, capacities)?;
+    let mut events = Vec::with_capacity(alloc, schedule.len())?;
     let mut board = Board::new(alloc, job, entry, slots, capacities)?;
     let crew = workers.as_mut_slice();
-    let held = follow(&mut board, crew, schedule);
+    let held = follow(&mut board, crew, schedule, &mut events);
     job.code.known();
     board.known();
     let trace = trace_of(alloc, &board);
     give_back(&mut board, crew, held);
-    trace
+    match trace {
+        Ok(trace) => Ok(Told { trace, events }),
+        Err(why) => Err(why),
+    }
 }
 
-// The entries of a schedule, one after another.
-fn follow<'c>(board: &mut Board<'c>, workers: &mut [Worker<'c>], schedule: &[u8]) -> Option<Held>
+// The entries of a schedule, one after another, each with its event.
+fn follow<'c>(
+    board: &mut Board<'c>,
+    workers: &mut [Worker<'c>],
+    schedule: &[u8],
+    events: &mut Vec<Event>,
+) -> Option<Held>
     requires keeps { Keeps board.old workers.old None }
     requires workers { All (λ w. w < board.old.setup.slots) schedule.now }
+    requires none { events.old.items ≡ [] }
+    requires room { length schedule.now ≤ vec_capacity events.old }
     ensures board { (replayed (course_of board.old.setup) schedule.now (world_of board.old workers.old None)).board ≡ board_of board.new }
+    ensures events { events.new.items ≡ events_of (course_of board.old.setup) schedule.now (world_of board.old workers.old None) }
     ensures setup { board.new.setup ≡ board.old.setup }
     ensures keeps { Keeps board.new workers.new result }
 {
     let mut held = None;
     for number in schedule {
-        held = turn(board, workers, u32::from(*number), held);
+        let (next, event) = turn(board, workers, u32::from(*number), held);
+        held = next;
+        let Ok(()) = events.push(event) else {
+            unreachable!()
+        };
     }
     held
 }
@@ -162,22 +207,20 @@ fn turn<'c>(
     workers: &mut [Worker<'c>],
     number: u32,
     held: Option<Held>,
-) -> Option<Held>
+) -> (Option<Held>, Event)
     requires keeps { Keeps board.old workers.old held }
     requires worker { number < board.old.setup.slots }
-    ensures step { entry_of (course_of board.old.setup) number (world_of board.old workers.old held) ((world_of board.old workers.old held).running number) ≡ world_of board.new workers.new result }
-    ensures keeps { Keeps board.new workers.new result }
+    ensures step { entry_of (course_of board.old.setup) number (world_of board.old workers.old held) ((world_of board.old workers.old held).running number) ≡ world_of board.new workers.new result.0 }
+    ensures told { result.1 ≡ event_of (course_of board.old.setup) number (board_of board.old) ((world_of board.old workers.old held).running number) }
+    ensures keeps { Keeps board.new workers.new result.0 }
     ensures setup { board.new.setup ≡ board.old.setup }
 {
     let worker = &mut workers[number as usize];
     match held {
-        None => match enter(board, worker, number, None) {
-            Some(head) => Some(Held {
-                worker: number,
-                head,
-            }),
-            None => None,
-        },
+        None => {
+            let (token, event) = enter(board, worker, number, None);
+            (held_by(number, token), event)
+        }
         Some(
             Held {
                 worker: holder,
@@ -185,23 +228,32 @@ fn turn<'c>(
             },
         ) => {
             if holder == number {
-                match enter(board, worker, number, Some(head)) {
-                    Some(head) => Some(Held {
-                        worker: number,
-                        head,
-                    }),
-                    None => None,
-                }
+                let (token, event) = enter(board, worker, number, Some(head));
+                (held_by(number, token), event)
             } else {
-                match enter(board, worker, number, None) {
+                let (token, event) = enter(board, worker, number, None);
+                match token {
                     Some(_head) => unreachable!(),
-                    None => Some(Held {
-                        worker: holder,
-                        head,
-                    }),
+                    None => {
+                        let held = Held {
+                            worker: holder,
+                            head,
+                        };
+                        (Some(held), event)
+                    }
                 }
             }
         }
+    }
+}
+
+// A token in a worker's hand.
+fn held_by(worker: u32, token: Option<Head>) -> Option<Held>
+    ensures { result ≡ held_at worker token }
+{
+    match token {
+        Some(head) => Some(Held { worker, head }),
+        None => None,
     }
 }
 

@@ -1,5 +1,6 @@
 // A worker of a replay.
 
+use crate::event::Deed;
 use hx_board::Head;
 use hx_frame::Frame;
 
@@ -14,4 +15,10 @@ pub(crate) struct Worker<'c> {
 pub(crate) struct Held {
     pub(crate) worker: u32,
     pub(crate) head: Head,
+}
+
+/// The token in a worker's hand after its entry, and what it did.
+pub(crate) struct Entered {
+    pub(crate) token: Option<Head>,
+    pub(crate) deed: Deed,
 }

@@ -48,7 +48,7 @@ opened_from r e = record { region = r; below = e.depth - 1; words = padded e.loc
 -- ---- ends
 
 abbrev pub region_counts : ℕ → Counts
-region_counts turns = record { regions = 1; turns = turns; repeats = 0; violations = 0; restarts = 0; holds = 0; abandons = 0; discarded = 0 }
+region_counts turns = record { regions = 1; turns = turns; repeats = 0; violations = 0; restarts = 0; holds = 0; abandons = 0; discarded = 0; spared = 0 }
 
 -- e is the end of a region that has ended, which began with n private words
 pub record IsEndOf (code : CodeView) (z : RegionState) (n : ℕ) (e : RegionEnd) : Type 0 where

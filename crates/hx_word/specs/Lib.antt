@@ -4,4 +4,5 @@ pub mod Running
 pub mod Plain
 pub mod Ran
 pub mod Entry
+pub mod Rooms
 pub mod Laws

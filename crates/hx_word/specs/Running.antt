@@ -41,10 +41,11 @@ pub record RunView : Type 0 where
   pub locals : ℕ
 
 -- what is known of a region that goes on or has ended: its room, and that its store and its text fit
-pub record KeepsRegion (code : CodeView) (z : RegionState) (reserved count : ℕ) : Type 0 where
+pub record KeepsRegion (code : CodeView) (z : RegionState) (reserved count locals_reserved : ℕ) : Type 0 where
   pub opened : IsOpened code z.opened
   pub store : length z.store ≡ store_words code
   pub goes : z.exit ≡ None → RunsWell code z
   pub text : z.opened.printed + length z.text ≤ TEXT_LIMIT
   pub room : TEXT_LIMIT ≤ reserved
   pub locals : count ≤ PRIVATE_LIMIT
+  pub own_room : PRIVATE_LIMIT ≤ locals_reserved

@@ -3,7 +3,8 @@
 ghost use Rattle.std.specs.Prelude.{◌≡◌, ◌+◌, ◌<◌, ◌≤◌, ◌++◌, length, drop, slice_get, Some, IfOk};
 ghost use Rattle.hx_code.specs.Code.{store_words};
 ghost use Rattle.hx_word.specs.Opening.{opened_of};
-ghost use Rattle.hx_word.specs.Entry.{privates_in, padded, IsEntryOf};
+ghost use Rattle.hx_word.specs.Entry.{privates_in, EntryFits, IsEntryOf, opened_from};
+ghost use Rattle.hx_word.specs.Running.{IsOpened};
 
 use crate::opened::Opened;
 use hx_code::code::Code;
@@ -78,4 +79,21 @@ pub fn put_words(locals: &[i32], words: &mut [i32; 64])
     ensures { words.new ≡ locals.now ++ drop (length locals.now) words.old }
 {
     words[..locals.len()].copy_from_slice(locals);
+}
+
+/// How a region was opened that has this entry.
+pub fn opened_by(code: &Code, region: u32, entry: &Entry) -> Opened
+    requires { EntryFits code.now region entry.now }
+    ensures opened { opened_of result ≡ opened_from region entry.now }
+    ensures fits { IsOpened code.now (opened_of result) }
+{
+    code.known();
+    let mut words = [0; 64];
+    put_words(&entry.locals, &mut words);
+    Opened {
+        region,
+        below: entry.depth - 1,
+        words,
+        printed: entry.text_len,
+    }
 }

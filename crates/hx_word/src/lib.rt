@@ -10,6 +10,7 @@ pub mod opened;
 mod opening;
 pub mod plain;
 pub mod region_run;
+pub mod room;
 mod state;
 pub mod text;
 

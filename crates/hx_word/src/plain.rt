@@ -5,11 +5,13 @@ ghost use Rattle.hx_code.specs.Machine.{Machine, InputFits, room_for_input, open
 ghost use Rattle.hx_word.specs.Plain.{PlainView, OpenView, StandsWell, machine_of, one_store, whole};
 ghost use Rattle.hx_word.specs.Opening.{opened_of};
 ghost use Rattle.hx_word.specs.Entry.{EntryFits, EndFits, IsEntryOf, result_from};
+ghost use Rattle.hx_word.specs.Rooms.{HasEntryRoom};
 ghost use Rattle.hx_word.specs.Ran.{RanFrom, PausedFrom, ReachedFrom};
 
 use crate::entry::{Entry, RegionEnd, entry_of};
 use crate::iterations::Iterations;
 use crate::opening::{opening_store, room_for};
+use crate::room::refill_entry;
 use crate::state::State;
 use hx_code::code::Code;
 use hx_code::local::Local;
@@ -116,6 +118,17 @@ impl<'c> Open<'c> {
         ensures printed { IfOk result (λ e. e.text_len ≡ length self.now.outer.text) }
     {
         region_entry(alloc, self.code, &self.state)
+    }
+
+    /// The region's entry, as `entry` gives it, in place of another. It takes no memory: the other has room for each entry of the code.
+    pub fn entry_into(&self, entry: &mut Entry)
+        requires { HasEntryRoom self.now.code entry.old }
+        ensures entry { IsEntryOf self.now.code self.now.region.opened self.now.region.store entry.new }
+        ensures fits { EntryFits self.now.code self.now.region.opened.region entry.new }
+        ensures printed { entry.new.text_len ≡ length self.now.outer.text }
+        ensures room { HasEntryRoom self.now.code entry.new }
+    {
+        region_entry_into(self.code, &self.state, entry);
     }
 
     /// The machine behind the region, which ended so. It takes no memory.
@@ -235,4 +248,19 @@ fn region_entry(alloc: Global, code: &Code, state: &State) -> Result<Entry, Allo
 {
     code.known();
     entry_of(alloc, code, &state.iterations.opened, &state.store)
+}
+
+// The entry of the region that runs, in place of another.
+fn region_entry_into(code: &Code, state: &State, entry: &mut Entry)
+    requires inside { state.now.is_inside ≡ true }
+    requires goes { state.now.end ≡ None }
+    requires well { StandsWell code.now (machine_of state.now) }
+    requires room { HasEntryRoom code.now entry.old }
+    ensures entry { IsEntryOf code.now (opened_of state.now.iterations.opened) state.now.store.items entry.new }
+    ensures fits { EntryFits code.now state.now.iterations.opened.region entry.new }
+    ensures printed { entry.new.text_len ≡ length state.now.text.items }
+    ensures room { HasEntryRoom code.now entry.new }
+{
+    code.known();
+    refill_entry(code, &state.iterations.opened, &state.store, entry);
 }

@@ -1,16 +1,18 @@
 // A region by itself, from an entry.
 
-ghost use Rattle.std.specs.Prelude.{◌≡◌, IfOk, MatchResult, None, is_some, length};
+ghost use Rattle.std.specs.Prelude.{◌≡◌, IfOk, MatchResult, MatchBool, None, is_some, length, true};
 ghost use Rattle.hx_code.specs.Region.{region_opening, region_after};
 ghost use Rattle.hx_word.specs.Entry.{EntryFits, IsEndOf, EndLasts, opened_from};
+ghost use Rattle.hx_word.specs.Rooms.{HasEndRoom};
 ghost use Rattle.hx_word.specs.Running.{RunView};
 
-use crate::entry::{Entry, RegionEnd, put_words};
+use crate::entry::{Entry, RegionEnd, opened_by};
 use crate::iterations::Iterations;
-use crate::opened::{Opened, words_behind};
+use crate::opened::words_behind;
+use crate::room::{plain_counts, refill_text, refill_words};
 use hx_code::code::Code;
 use hx_code::word::Exit;
-use hx_tree::outcome::Counts;
+use hx_tree::limits::PRIVATE_LIMIT;
 use std::alloc::{AllocError, Global};
 use std::marker::Model;
 
@@ -33,7 +35,7 @@ impl<'c> Model for RegionRun<'c> {
 
     ghost view = { λ r. record { code = r.code.now; state = running r.iterations r.store.items r.exit; locals = length r.locals.items } };
 
-    ghost invariant = { λ r. KeepsRegion r.code.now (running r.iterations r.store.items r.exit) (vec_capacity r.iterations.text) (length r.locals.items) };
+    ghost invariant = { λ r. KeepsRegion r.code.now (running r.iterations r.store.items r.exit) (vec_capacity r.iterations.text) (length r.locals.items) (vec_capacity r.locals) };
 }
 
 impl<'c> RegionRun<'c> {
@@ -48,16 +50,10 @@ impl<'c> RegionRun<'c> {
         ensures { IfOk result (λ run. run ≡ record { code = code.now; state = region_opening code.now (opened_from region entry.now) entry.now.store.items; locals = length entry.now.locals.items }) }
     {
         code.known();
-        let mut words = [0; 64];
-        put_words(&entry.locals, &mut words);
-        let opened = Opened {
-            region,
-            below: entry.depth - 1,
-            words,
-            printed: entry.text_len,
-        };
+        let opened = opened_by(code, region, entry);
         let store = Vec::from_slice(alloc, &entry.store)?;
-        let locals = Vec::from_slice(alloc, &entry.locals)?;
+        let mut locals = Vec::with_capacity(alloc, PRIVATE_LIMIT)?;
+        refill_words(&mut locals, &entry.locals);
         let mut iterations = Iterations::new(alloc, code)?;
         iterations.open(code, opened);
         Ok(RegionRun {
@@ -67,6 +63,20 @@ impl<'c> RegionRun<'c> {
             locals,
             exit: None,
         })
+    }
+
+    /// Another region as its first iteration begins, or the same from another entry, as `new` gives it. It takes no memory.
+    pub fn again(&mut self, region: u32, entry: &Entry)
+        requires { EntryFits self.old.code region entry.now }
+        ensures { self.new ≡ record { code = self.old.code; state = region_opening self.old.code (opened_from region entry.now) entry.now.store.items; locals = length entry.now.locals.items } }
+    {
+        let code = self.code;
+        code.known();
+        let opened = opened_by(code, region, entry);
+        self.store.copy_from_slice(&entry.store);
+        refill_words(&mut self.locals, &entry.locals);
+        self.iterations.open(code, opened);
+        self.exit = None;
     }
 
     /// Does so many words, or fewer to the region's end. True exactly where the region has ended. It
@@ -110,24 +120,37 @@ impl<'c> RegionRun<'c> {
                 let count = locals.len();
                 locals.copy_from_slice(&words[..count]);
                 let (text, turns) = iterations.told();
-                let counts = Counts {
-                    regions: 1,
-                    turns,
-                    repeats: 0,
-                    violations: 0,
-                    restarts: 0,
-                    holds: 0,
-                    abandons: 0,
-                    discarded: 0,
-                };
                 Ok(RegionEnd {
                     exit,
                     store,
                     locals,
                     text,
-                    counts,
+                    counts: plain_counts(turns),
                 })
             }
         }
+    }
+
+    /// The region's end, as `end` gives it, in place of another. False exactly where it hasn't ended; the other end stays then. It takes
+    /// no memory: the other has room for each end of the code.
+    pub fn end_into(&self, end: &mut RegionEnd) -> bool
+        requires { HasEndRoom self.now.code end.old }
+        ensures end { MatchBool result (IsEndOf self.now.code self.now.state self.now.locals end.new) ((end.new ≡ end.old) × (self.now.state.exit ≡ None)) }
+        ensures fits { result ≡ true → EndLasts self.now.code self.now.state self.now.locals end.new }
+        ensures room { HasEndRoom self.now.code end.new }
+    {
+        let Some(exit) = self.exit else {
+            return false;
+        };
+        let iterations = &self.iterations;
+        let number = iterations.number;
+        let words = words_behind(self.code, &iterations.opened, exit, number, &self.store);
+        let count = self.locals.len();
+        refill_words(&mut end.store, &self.store);
+        refill_words(&mut end.locals, &words[..count]);
+        refill_text(&mut end.text, &iterations.text);
+        end.exit = exit;
+        end.counts = plain_counts(iterations.turns);
+        true
     }
 }

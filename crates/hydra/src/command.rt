@@ -7,12 +7,13 @@ use crate::files::{input_of, open_source};
 use crate::request::{Paths, Request, read_words};
 use clap::error::{Error, ErrorKind};
 use hx_answer::{
-    Schedule, Status, answer_check, answer_execution, answer_replay, answer_words, tell_memory,
-    tell_write_failed,
+    Asked, Kept, Schedule, Status, answer_check, answer_execution, answer_explain, answer_replay,
+    answer_words, explain_check, explain_execution, tell_memory, tell_no_number, tell_write_failed,
 };
 use hx_device::{Reading, Writing};
 use hx_run::Mode;
 use hx_tree::outcome::Settings;
+use std::alloc::Global;
 use std::convert::AsStr;
 use std::io::Write;
 use std::rt::Files;
@@ -27,8 +28,8 @@ fn inputs_of<R: Files + AllocGlobal, E: Write>(
 ) -> Result<(Vec<i32>, Reading<R::File>), Status>
     ensures { IfOk result (λ r. r.1.failures ≡ 0) }
 {
-    let input = input_of(rt, paths.input, err)?;
-    let source = open_source(rt, paths.source, err)?;
+    let input = input_of(rt, paths, err)?;
+    let source = open_source(rt, paths.source, paths.explains, err)?;
     Ok((input, source))
 }
 
@@ -45,16 +46,31 @@ fn execute_file<R: Files + AllocGlobal + Threads + Wait + Sync, W: Write, E: Wri
         Err(status) => return status,
     };
     let mut out = Writing::new(out);
-    answer_execution(
-        rt.alloc(),
-        rt,
-        mode,
-        &mut source,
-        input.as_slice(),
-        settings,
-        &mut out,
-        err,
-    )
+    let input = input.as_slice();
+    if paths.explains {
+        let mut source = Kept::new(rt.alloc(), source);
+        explain_execution(
+            rt.alloc(),
+            rt,
+            mode,
+            &mut source,
+            input,
+            settings,
+            &mut out,
+            err,
+        )
+    } else {
+        answer_execution(
+            rt.alloc(),
+            rt,
+            mode,
+            &mut source,
+            input,
+            settings,
+            &mut out,
+            err,
+        )
+    }
 }
 
 fn replay_file<R: Files + AllocGlobal, W: Write, E: Write>(
@@ -81,13 +97,20 @@ fn replay_file<R: Files + AllocGlobal, W: Write, E: Write>(
 
 fn check_file<R: Files + AllocGlobal, W: Write, E: Write>(
     rt: &R,
-    path: &str,
+    paths: &Paths<'_>,
     out: &mut W,
     err: &mut E,
 ) -> Status {
-    match open_source(rt, path, err) {
-        Ok(mut source) => answer_check(rt.alloc(), &mut source, &mut Writing::new(out), err),
-        Err(status) => status,
+    let mut source = match open_source(rt, paths.source, paths.explains, err) {
+        Ok(source) => source,
+        Err(status) => return status,
+    };
+    let mut out = Writing::new(out);
+    if paths.explains {
+        let mut source = Kept::new(rt.alloc(), source);
+        explain_check(rt.alloc(), &mut source, &mut out, err)
+    } else {
+        answer_check(rt.alloc(), &mut source, &mut out, err)
     }
 }
 
@@ -97,9 +120,21 @@ fn list_file<R: Files + AllocGlobal, W: Write, E: Write>(
     out: &mut W,
     err: &mut E,
 ) -> Status {
-    match open_source(rt, path, err) {
+    match open_source(rt, path, false, err) {
         Ok(mut source) => answer_words(rt.alloc(), &mut source, &mut Writing::new(out), err),
         Err(status) => status,
+    }
+}
+
+fn explain_number<W: Write, E: Write>(
+    alloc: Global,
+    asked: Option<Asked>,
+    out: &mut W,
+    err: &mut E,
+) -> Status {
+    match asked {
+        Some(asked) => answer_explain(alloc, asked, &mut Writing::new(out), err),
+        None => tell_no_number(err),
     }
 }
 
@@ -114,7 +149,7 @@ fn tell_command_line<W: Write, E: Write>(error: &Error, out: &mut W, err: &mut E
         let _ = write!(err, "{error}");
         return Status::Refused;
     }
-    match write!(out, "{error}") {
+    match write!(out, "{error}").and_then(|()| out.flush()) {
         Ok(()) => Status::Done,
         Err(_) => tell_write_failed(err),
     }
@@ -139,7 +174,8 @@ pub(crate) fn command<R: Files + AllocGlobal + Threads + Wait + Sync, S: AsStr, 
             execute_file(rt, &paths, mode, settings, out, err)
         }
         Ok(Some(Request::Replay(paths, asked))) => replay_file(rt, &paths, &asked, out, err),
-        Ok(Some(Request::Check(path))) => check_file(rt, path, out, err),
+        Ok(Some(Request::Check(paths))) => check_file(rt, &paths, out, err),
+        Ok(Some(Request::Explain(asked))) => explain_number(rt.alloc(), asked, out, err),
         Ok(Some(Request::Words(path))) => list_file(rt, path, out, err),
         Ok(None) => Status::Refused,
         Err(error) => tell_command_line(&error, out, err),

@@ -56,7 +56,7 @@ fn with_settings<'a>(
         alloc,
         "workers",
         "4",
-        "How many workers run the turns of a marked loop, 1 to 8",
+        "How many workers run the turns of a marked loop, 1 to 16",
     );
     let marks = number_option(
         alloc,
@@ -99,6 +99,36 @@ fn with_stats<'a>(
     with_argument(command, stats)
 }
 
+fn with_globals<'a>(
+    alloc: Global,
+    command: Result<Command<'a>, AllocError>,
+) -> Result<Command<'a>, AllocError> {
+    let globals = Arg::new(alloc, "globals")
+        .long("globals")
+        .help("Print a line for each global as the run left it, behind all else")
+        .action(ArgAction::SetTrue);
+    with_argument(command, globals)
+}
+
+fn with_explain<'a>(
+    alloc: Global,
+    command: Result<Command<'a>, AllocError>,
+) -> Result<Command<'a>, AllocError> {
+    let explain = Arg::new(alloc, "explain")
+        .long("explain")
+        .help("Behind a refusal or a fault show its line, and say what is wrong there")
+        .action(ArgAction::SetTrue);
+    with_argument(command, explain)
+}
+
+// What is written and told of a run.
+fn with_telling<'a>(
+    alloc: Global,
+    command: Result<Command<'a>, AllocError>,
+) -> Result<Command<'a>, AllocError> {
+    with_explain(alloc, with_globals(alloc, with_stats(alloc, command)))
+}
+
 fn run_command<'a>(alloc: Global) -> Result<Command<'a>, AllocError> {
     let run = command_on_file(
         alloc,
@@ -107,7 +137,7 @@ fn run_command<'a>(alloc: Global) -> Result<Command<'a>, AllocError> {
         "Workers and tables never change what a program prints, only what --stats counts of it.\n\
          Exit status: 0 for a normal end, 1 for a fault of the program, 2 for a refusal, 3 for want of memory, 4 for a file.",
     );
-    with_stats(alloc, with_settings(alloc, with_input(alloc, run)))
+    with_telling(alloc, with_settings(alloc, with_input(alloc, run)))
 }
 
 fn plain_command<'a>(alloc: Global) -> Result<Command<'a>, AllocError> {
@@ -117,16 +147,34 @@ fn plain_command<'a>(alloc: Global) -> Result<Command<'a>, AllocError> {
         "Runs a program on one thread, word by word, for at most so many words",
         "It prints what 'run' prints. A run that isn't over after its words prints nothing, and its exit status is 2.",
     );
-    with_stats(alloc, with_steps(alloc, with_input(alloc, plain)))
+    with_telling(alloc, with_steps(alloc, with_input(alloc, plain)))
 }
 
 fn check_command<'a>(alloc: Global) -> Result<Command<'a>, AllocError> {
-    command_on_file(
+    let check = command_on_file(
         alloc,
         "check",
         "Says 'ok' where a program is accepted",
         "Otherwise the refusal is told with its number and mostly its place, line and column, as in 'hydra: refused 10 at 1:22'.",
-    )
+    );
+    with_explain(alloc, check)
+}
+
+fn explain_command<'a>(alloc: Global) -> Result<Command<'a>, AllocError> {
+    let number = Arg::new(alloc, "NUMBER")
+        .help("The number of a refusal, or the word 'fault'")
+        .required(true)
+        .action(ArgAction::Set);
+    let kind = Arg::new(alloc, "KIND")
+        .help("Behind 'fault', the number of the fault")
+        .action(ArgAction::Set);
+    let explain = Command::new(alloc, "explain")
+        .about(
+            "Says what the number of a refusal or a fault means, with a wrong source and a right one",
+        )
+        .after_help("Try it: hydra explain 10, and hydra explain fault 2")
+        .arg(number);
+    with_argument(explain, kind)
 }
 
 fn words_command<'a>(alloc: Global) -> Result<Command<'a>, AllocError> {
@@ -138,10 +186,15 @@ fn words_command<'a>(alloc: Global) -> Result<Command<'a>, AllocError> {
     )
 }
 
-fn replay_command<'a>(alloc: Global) -> Result<Command<'a>, AllocError> {
+// A command that replays a schedule, with one flag of its own.
+fn schedule_command<'a>(
+    alloc: Global,
+    replay: Result<Command<'a>, AllocError>,
+    flag: Arg<'a>,
+) -> Result<Command<'a>, AllocError> {
     let schedule = Arg::new(alloc, "SCHEDULE")
         .help(
-            "Whose turn it is, again and again: a digit for each step, from 0 for the first worker on",
+            "Whose turn it is, again and again: a digit for each step, from 0 for the first worker on, and a to f for those from 10 on",
         )
         .required(true)
         .action(ArgAction::Set);
@@ -151,6 +204,17 @@ fn replay_command<'a>(alloc: Global) -> Result<Command<'a>, AllocError> {
         "1",
         "Which of the marked loops that the run enters is replayed, counted from 1",
     );
+    let replay = with_argument(replay, schedule);
+    let replay = with_argument(replay, entry.value_parser(value_parser!(u64)));
+    let replay = with_argument(replay, flag);
+    with_steps(alloc, with_settings(alloc, with_input(alloc, replay)))
+}
+
+fn replay_command<'a>(alloc: Global) -> Result<Command<'a>, AllocError> {
+    let events = Arg::new(alloc, "events")
+        .long("events")
+        .help("Tell what each step came to, a line for each, ahead of all else")
+        .action(ArgAction::SetTrue);
     let replay = command_on_file(
         alloc,
         "replay",
@@ -158,11 +222,24 @@ fn replay_command<'a>(alloc: Global) -> Result<Command<'a>, AllocError> {
         "The program runs plainly up to the loop. Then each digit of SCHEDULE lets one worker do its next step: begin an iteration, or run to its \
          next load, store, print or end of a turn, and do that.\n\
          The text that the loop has printed comes first, then its state, then the counts.\n\
-         Try it: hydra replay count.hc 01010110011110000 --workers 2",
+         Try it: hydra replay count.hc 01010110011110000 --workers 2 --events",
     );
-    let replay = with_argument(replay, schedule);
-    let replay = with_argument(replay, entry.value_parser(value_parser!(u64)));
-    with_steps(alloc, with_settings(alloc, with_input(alloc, replay)))
+    schedule_command(alloc, replay, events)
+}
+
+fn timeline_command<'a>(alloc: Global) -> Result<Command<'a>, AllocError> {
+    let text = Arg::new(alloc, "text")
+        .long("text")
+        .help("Print a table in place of the picture")
+        .action(ArgAction::SetTrue);
+    let timeline = command_on_file(
+        alloc,
+        "timeline",
+        "Draws what 'replay' does, as an SVG picture on standard output",
+        "Time goes down, a line for each digit of SCHEDULE. Each worker has a lane, and each attempt at an iteration a box in it.\n\
+         Try it: hydra timeline count.hc 01010110011110000 --workers 2 > count.svg",
+    );
+    schedule_command(alloc, timeline, text)
 }
 
 // The program's own, without its commands.
@@ -199,6 +276,8 @@ pub(crate) fn hydra_command<'a>(alloc: Global) -> Result<Command<'a>, AllocError
     let hydra = with_command(bare_command(alloc), run_command(alloc));
     let hydra = with_command(hydra, plain_command(alloc));
     let hydra = with_command(hydra, replay_command(alloc));
+    let hydra = with_command(hydra, timeline_command(alloc));
     let hydra = with_command(hydra, check_command(alloc));
-    with_command(hydra, words_command(alloc))
+    let hydra = with_command(hydra, words_command(alloc));
+    with_command(hydra, explain_command(alloc))
 }

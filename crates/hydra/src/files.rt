@@ -2,25 +2,54 @@
 
 ghost use Rattle.std.specs.Prelude.{◌≡◌, IfOk};
 
+use crate::request::Paths;
 use hx_answer::{Status, tell_memory, tell_read_failed, tell_refusal};
+use hx_case::case_of_input_text;
 use hx_device::{ReadError, Reading, read_all};
 use hx_run::parse_input;
 use hx_tree::limits::INPUT_LIMIT;
+use std::alloc::{AllocError, Global};
 use std::fs::File;
 use std::io::Write;
 use std::rt::Files;
 
+// Tells more of what was told, where that is asked for.
+fn tell_more<E: Write>(explains: bool, more: Result<Vec<u8>, AllocError>, err: &mut E) {
+    if explains {
+        if let Ok(text) = more {
+            let _ = err.write_all(text.as_slice());
+        }
+    }
+}
+
+// `'PATH'`, and what is said of it.
+fn said_of(alloc: Global, path: &str, what: &[u8]) -> Result<Vec<u8>, AllocError> {
+    let mut text = Vec::from_slice(alloc, b"'")?;
+    text.extend_from_slice(path.as_bytes())?;
+    text.extend_from_slice(what)?;
+    Ok(text)
+}
+
 /// The source in a file that opens, of which no read has failed yet.
-pub(crate) fn open_source<R: Files, E: Write>(
+pub(crate) fn open_source<R: Files + AllocGlobal, E: Write>(
     rt: &R,
     path: &str,
+    explains: bool,
     err: &mut E,
 ) -> Result<Reading<R::File>, Status>
     ensures { IfOk result (λ s. s.failures ≡ 0) }
 {
     match File::open(rt, path) {
         Ok(file) => Ok(Reading::new(file)),
-        Err(_) => Err(tell_read_failed(err)),
+        Err(_) => {
+            let status = tell_read_failed(err);
+            tell_more(
+                explains,
+                said_of(rt.alloc(), path, b"' can't be opened.\n"),
+                err,
+            );
+            Err(status)
+        }
     }
 }
 
@@ -28,12 +57,21 @@ pub(crate) fn open_source<R: Files, E: Write>(
 fn read_input<R: Files + AllocGlobal, E: Write>(
     rt: &R,
     path: &str,
+    explains: bool,
     err: &mut E,
 ) -> Result<Vec<u8>, Status> {
-    let mut source = open_source(rt, path, err)?;
+    let mut source = open_source(rt, path, explains, err)?;
     match read_all(rt.alloc(), &mut source, INPUT_LIMIT + 1) {
         Ok(text) => Ok(text),
-        Err(ReadError::Failed) => Err(tell_read_failed(err)),
+        Err(ReadError::Failed) => {
+            let status = tell_read_failed(err);
+            tell_more(
+                explains,
+                said_of(rt.alloc(), path, b"' can't be read.\n"),
+                err,
+            );
+            Err(status)
+        }
         Err(ReadError::Memory) => Err(tell_memory(err)),
     }
 }
@@ -41,12 +79,22 @@ fn read_input<R: Files + AllocGlobal, E: Write>(
 /// The numbers of the input file, or none where none is named.
 pub(crate) fn input_of<R: Files + AllocGlobal, E: Write>(
     rt: &R,
-    path: Option<&str>,
+    paths: &Paths<'_>,
     err: &mut E,
 ) -> Result<Vec<i32>, Status> {
-    let Some(path) = path else {
+    let Some(path) = paths.input else {
         return Ok(Vec::new(rt.alloc()));
     };
-    let text = read_input(rt, path, err)?;
-    parse_input(rt.alloc(), text.as_slice()).map_err(|refusal| tell_refusal(err, &refusal))
+    let text = read_input(rt, path, paths.explains, err)?;
+    match parse_input(rt.alloc(), text.as_slice()) {
+        Ok(numbers) => Ok(numbers),
+        Err(refusal) => {
+            let status = tell_refusal(err, &refusal);
+            if status == Status::Refused {
+                let more = case_of_input_text(rt.alloc(), text.as_slice());
+                tell_more(paths.explains, more, err);
+            }
+            Err(status)
+        }
+    }
 }

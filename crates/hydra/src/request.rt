@@ -2,17 +2,18 @@
 
 use crate::commands::hydra_command;
 use clap::{ArgMatches, Error};
-use hx_answer::Schedule;
-use hx_run::Mode;
+use hx_answer::{Asked, Schedule, Shown};
+use hx_run::{Mode, Tail};
 use hx_tree::outcome::Settings;
 use std::alloc::Global;
 use std::convert::AsStr;
 
-/// A program and its input, as files.
+/// A program and its input, as files, and whether more is told of what is refused of them.
 #[derive(Clone, Copy, Debug)]
 pub struct Paths<'a> {
     pub source: &'a str,
     pub input: Option<&'a str>,
+    pub explains: bool,
 }
 
 /// What is asked for.
@@ -23,7 +24,9 @@ pub enum Request<'a> {
     /// A schedule of a region.
     Replay(Paths<'a>, Schedule<'a>),
     /// Whether a source is accepted.
-    Check(&'a str),
+    Check(Paths<'a>),
+    /// What a number means; none where the words are no number.
+    Explain(Option<Asked>),
     /// The listing of a source's words.
     Words(&'a str),
 }
@@ -42,6 +45,42 @@ fn paths_of<'a>(matches: &ArgMatches<'a>) -> Paths<'a> {
     Paths {
         source: source_of(matches),
         input: matches.get_str("input"),
+        explains: matches.get_flag("explain"),
+    }
+}
+
+// The paths of a command that takes no input.
+fn paths_of_source<'a>(matches: &ArgMatches<'a>) -> Paths<'a> {
+    Paths {
+        source: source_of(matches),
+        input: None,
+        explains: matches.get_flag("explain"),
+    }
+}
+
+// The paths of a command that explains nothing.
+fn paths_of_replay<'a>(matches: &ArgMatches<'a>) -> Paths<'a> {
+    Paths {
+        source: source_of(matches),
+        input: matches.get_str("input"),
+        explains: false,
+    }
+}
+
+fn tail_of(matches: &ArgMatches<'_>) -> Tail {
+    Tail {
+        stats: matches.get_flag("stats"),
+        globals: matches.get_flag("globals"),
+    }
+}
+
+// What is to be explained: a number, or `fault` and a number.
+fn asked_of(matches: &ArgMatches<'_>) -> Option<Asked> {
+    let first = matches.get_str("NUMBER")?;
+    match matches.get_str("KIND") {
+        None => Some(Asked::Refusal(first.parse::<u32>().ok()?)),
+        Some(kind) if first == "fault" => Some(Asked::Fault(kind.parse::<u32>().ok()?)),
+        Some(_) => None,
     }
 }
 
@@ -62,33 +101,56 @@ fn steps_of(matches: &ArgMatches<'_>) -> u64 {
     matches.get_one::<u64>("steps").unwrap_or(DEFAULT_STEPS)
 }
 
-fn schedule_of<'a>(matches: &ArgMatches<'a>) -> Schedule<'a> {
+fn shown_of_replay(matches: &ArgMatches<'_>) -> Shown {
+    if matches.get_flag("events") {
+        Shown::Events
+    } else {
+        Shown::Trace
+    }
+}
+
+fn shown_of_timeline(matches: &ArgMatches<'_>) -> Shown {
+    if matches.get_flag("text") {
+        Shown::Table
+    } else {
+        Shown::Picture
+    }
+}
+
+fn schedule_of<'a>(matches: &ArgMatches<'a>, shown: Shown) -> Schedule<'a> {
     Schedule {
         nth: matches.get_one::<u64>("entry").unwrap_or(DEFAULT_ENTRY),
         steps: steps_of(matches),
         settings: settings_of(matches),
         digits: matches.get_str("SCHEDULE").unwrap_or("").as_bytes(),
+        shown,
     }
 }
 
 fn request_of<'a>(name: &str, inner: &ArgMatches<'a>) -> Option<Request<'a>> {
     if name == "run" {
-        let stats = inner.get_flag("stats");
-        let mode = Mode::Run { stats };
+        let mode = Mode::Run {
+            tail: tail_of(inner),
+        };
         Some(Request::Execute(paths_of(inner), mode, settings_of(inner)))
     } else if name == "plain" {
-        let stats = inner.get_flag("stats");
         let mode = Mode::Plain {
             steps: steps_of(inner),
-            stats,
+            tail: tail_of(inner),
         };
         Some(Request::Execute(paths_of(inner), mode, DEFAULT_SETTINGS))
     } else if name == "replay" {
-        Some(Request::Replay(paths_of(inner), schedule_of(inner)))
+        let asked = schedule_of(inner, shown_of_replay(inner));
+        Some(Request::Replay(paths_of_replay(inner), asked))
+    } else if name == "timeline" {
+        let asked = schedule_of(inner, shown_of_timeline(inner));
+        Some(Request::Replay(paths_of_replay(inner), asked))
     } else if name == "check" {
-        Some(Request::Check(source_of(inner)))
+        Some(Request::Check(paths_of_source(inner)))
     } else if name == "words" {
         Some(Request::Words(source_of(inner)))
+    } else if name == "explain" {
+        Some(Request::Explain(asked_of(inner)))
     } else {
         None
     }

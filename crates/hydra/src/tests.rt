@@ -1,8 +1,13 @@
 // Whole commands, on files that each test writes for itself.
 
+mod drawing;
+mod edges;
+mod explaining;
 mod helping;
+mod listed;
 mod replaying;
 mod reporting;
+mod telling;
 
 use crate::command::command;
 use std::io::Write;
@@ -233,7 +238,7 @@ fn reads_command_lines(rt: HostRuntime) {
 
 #[test]
 fn refuses_command_lines(rt: HostRuntime) {
-    let wrong: [&[&str]; 14] = [
+    let wrong: [&[&str]; 15] = [
         &["hydra"],
         &["hydra", "run"],
         &["hydra", "leap", "x"],
@@ -246,6 +251,7 @@ fn refuses_command_lines(rt: HostRuntime) {
         &["hydra", "plain", "x", "--workers", "1"],
         &["hydra", "run", "x", "--entry", "1"],
         &["hydra", "replay", "x", "0", "--stats"],
+        &["hydra", "run", "x", "--events"],
         &["hydra", "check", "x", "--steps", "1"],
         &["hydra", "words", "x", "--input", "y"],
     ];

@@ -292,8 +292,13 @@ fn a_schedule_is_played(rt: HostRuntime) -> Result<(), Fail> {
                 [2, 1, 1, 1]
             );
             assert_eq!(&rt;
-                [counts.holds, counts.abandons, counts.discarded],
-                [0, 0, 0]
+                [
+                    counts.holds,
+                    counts.abandons,
+                    counts.discarded,
+                    counts.spared
+                ],
+                [0, 0, 0, 0]
             );
         }
         Err(_) => assert!(&rt; false),
@@ -313,9 +318,10 @@ fn a_beginning_is_played(rt: HostRuntime) -> Result<(), Fail> {
                     counts.turns,
                     counts.repeats,
                     counts.violations,
-                    counts.restarts
+                    counts.restarts,
+                    counts.spared
                 ],
-                [0, 0, 1, 1]
+                [0, 0, 1, 1, 0]
             );
         }
         Err(_) => assert!(&rt; false),
@@ -323,13 +329,18 @@ fn a_beginning_is_played(rt: HostRuntime) -> Result<(), Fail> {
     Ok(())
 }
 
-// The counts of a schedule of two workers on the first loop of a program, from turns to discarded, and what is left behind.
-fn played(alloc: Global, source: &[u8], schedule: &[u8]) -> Result<(Trace, [u64; 7]), Fail> {
+// The counts of a schedule of so many workers on the first loop of a program, from turns to spared, and what is left behind.
+pub(crate) fn played(
+    alloc: Global,
+    source: &[u8],
+    workers: u32,
+    schedule: &[u8],
+) -> Result<(Trace, [u64; 8]), Fail> {
     let rooms = Capacities {
         marks: 512,
         buffer: 64,
     };
-    let Ok(trace) = first_loop(alloc, source, &[], 2, rooms, schedule)? else {
+    let Ok(trace) = first_loop(alloc, source, &[], workers, rooms, schedule)? else {
         return Err(Fail::from("no trace"));
     };
     let c = trace.counts;
@@ -341,6 +352,7 @@ fn played(alloc: Global, source: &[u8], schedule: &[u8]) -> Result<(Trace, [u64;
         c.holds,
         c.abandons,
         c.discarded,
+        c.spared,
     ];
     Ok((trace, counts))
 }
@@ -349,11 +361,11 @@ fn played(alloc: Global, source: &[u8], schedule: &[u8]) -> Result<(Trace, [u64;
 #[test]
 fn independent_turns_are_played(rt: HostRuntime) -> Result<(), Fail> {
     let source = b"int a[2]; int main(){ pfor(int i=0;i<2;i++) a[i]=i; }".as_slice();
-    let (trace, counts) = played(rt.alloc(), source, &[0, 1, 1, 0, 0, 0, 1, 1, 0, 0, 0])?;
+    let (trace, counts) = played(rt.alloc(), source, 2, &[0, 1, 1, 0, 0, 0, 1, 1, 0, 0, 0])?;
     assert!(&rt; trace.state == State::Left);
     assert!(&rt; trace.text.is_empty());
     assert!(&rt; trace.store.as_slice().starts_with(&[0, 1]));
-    assert_eq!(&rt; counts, [2, 0, 0, 0, 0, 0, 0]);
+    assert_eq!(&rt; counts, [2, 0, 0, 0, 0, 0, 0, 0]);
     Ok(())
 }
 
@@ -363,11 +375,11 @@ fn an_early_divisor_is_played(rt: HostRuntime) -> Result<(), Fail> {
     let source =
         b"int d; int main(){ pfor(int i=0;i<2;i++){ if(i==0) d=2; else print(10/d); } }".as_slice();
     let schedule = [0, 1, 1, 0, 1, 1, 0, 0, 1, 1, 1, 1, 0, 0, 0];
-    let (trace, counts) = played(rt.alloc(), source, schedule.as_slice())?;
+    let (trace, counts) = played(rt.alloc(), source, 2, schedule.as_slice())?;
     assert!(&rt; trace.state == State::Left);
     assert_eq!(&rt; trace.text.as_slice(), b"5\n".as_slice());
     assert_eq!(&rt; trace.store.as_slice().first(), Some(&2));
-    assert_eq!(&rt; counts, [2, 1, 1, 1, 0, 0, 0]);
+    assert_eq!(&rt; counts, [2, 1, 1, 1, 0, 0, 0, 0]);
     Ok(())
 }
 

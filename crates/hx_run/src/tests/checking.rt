@@ -213,11 +213,11 @@ fn limits(rt: HostRuntime) {
     let rows: [(&[u8], u32, u32); 12] = [
         (b"int a[0]; int main(){}", 26, 5),
         (b"int a[1]; int main(){}", 0, 0),
-        (b"int a[65536]; int main(){}", 0, 0),
-        (b"int a[65537]; int main(){}", 26, 5),
-        (b"int a[65535]; int b; int main(){}", 0, 0),
-        (b"int a[65536]; int b; int main(){}", 26, 19),
-        (b"int a[65535], b, c; int main(){}", 26, 18),
+        (b"int a[262144]; int main(){}", 0, 0),
+        (b"int a[262145]; int main(){}", 26, 5),
+        (b"int a[262143]; int b; int main(){}", 0, 0),
+        (b"int a[262144]; int b; int main(){}", 26, 20),
+        (b"int a[262143], b, c; int main(){}", 26, 19),
         (b"int a[2]={1,-2}; int main(){}", 0, 0),
         (b"int a[2]={1,2,3}; int main(){}", 26, 5),
         (

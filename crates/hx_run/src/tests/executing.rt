@@ -1,6 +1,6 @@
 // Whole executions over devices in memory, each of whose calls fails in turn.
 
-use crate::{Done, Mode, Refusal, Unwatched, execute, execute_plain};
+use crate::{Done, Mode, Refusal, Tail, Unwatched, execute, execute_plain};
 use hx_device::{MemorySink, MemorySource};
 use hx_tree::outcome::{End, Settings};
 use std::alloc::Global;
@@ -13,9 +13,30 @@ const DIVIDES: &[u8] =
     b"int d; int main(){ pfor(int i=0;i<2;i++){ if(i==0) d=2; else print(10/d); } }";
 
 const REPORT: &[u8] =
-    b"5\nend normal 0\nregions 1\nturns 2\nrepeats 0\nviolations 0\nrestarts 0\nholds 0\nabandons 0\ndiscarded 0\n";
+    b"5\nend normal 0\nregions 1\nturns 2\nrepeats 0\nviolations 0\nrestarts 0\nholds 0\nabandons 0\ndiscarded 0\nspared 0\n";
 
 const NEVER: u64 = 1000;
+
+// What may stand behind the text.
+const NOTHING: Tail = Tail {
+    stats: false,
+    globals: false,
+};
+
+const STATS: Tail = Tail {
+    stats: true,
+    globals: false,
+};
+
+const GLOBALS: Tail = Tail {
+    stats: false,
+    globals: true,
+};
+
+const BOTH: Tail = Tail {
+    stats: true,
+    globals: true,
+};
 
 const WELL: Result<Done, Refusal> = Ok(Done::Finished(End::Normal(0)));
 
@@ -65,19 +86,19 @@ fn executes<R: Abort + Threads + Wait + Sync>(
 #[test]
 fn writes_texts_and_reports(rt: HostRuntime) {
     let alloc = rt.alloc();
-    let run = Mode::Run { stats: false };
+    let run = Mode::Run { tail: NOTHING };
     executes(&rt, alloc, run, 2, NONE, WELL, b"5\n");
-    let run = Mode::Run { stats: true };
+    let run = Mode::Run { tail: STATS };
     executes(&rt, alloc, run, 1, NONE, WELL, REPORT);
     executes(&rt, alloc, run, 0, NONE, Err(Refusal::Settings), b"");
     let plain = Mode::Plain {
         steps: 1000,
-        stats: true,
+        tail: STATS,
     };
     executes(&rt, alloc, plain, 0, NONE, WELL, REPORT);
     let short = Mode::Plain {
         steps: 1,
-        stats: true,
+        tail: STATS,
     };
     executes(&rt, alloc, short, 0, NONE, Ok(Done::NotEnded), b"");
 }
@@ -85,7 +106,7 @@ fn writes_texts_and_reports(rt: HostRuntime) {
 #[test]
 fn tells_of_failed_devices(rt: HostRuntime) {
     let alloc = rt.alloc();
-    let run = Mode::Run { stats: true };
+    let run = Mode::Run { tail: STATS };
     for read in [0, 1] {
         let failures = Failures { read, write: NEVER };
         executes(&rt, alloc, run, 1, failures, Err(Refusal::ReadFailed), b"");
@@ -106,10 +127,24 @@ fn tells_of_failed_devices(rt: HostRuntime) {
 }
 
 #[test]
+fn writes_globals(rt: HostRuntime) {
+    let alloc = rt.alloc();
+    let run = Mode::Run { tail: GLOBALS };
+    executes(&rt, alloc, run, 2, NONE, WELL, b"5\nd 2\n");
+    let plain = Mode::Plain {
+        steps: 1000,
+        tail: BOTH,
+    };
+    let wanted =
+        b"5\nend normal 0\nregions 1\nturns 2\nrepeats 0\nviolations 0\nrestarts 0\nholds 0\nabandons 0\ndiscarded 0\nspared 0\nd 2\n";
+    executes(&rt, alloc, plain, 0, NONE, WELL, wanted);
+}
+
+#[test]
 fn executes_plainly(rt: HostRuntime) {
     let mut source = MemorySource::new(DIVIDES);
     let mut out = MemorySink::new(rt.alloc());
-    let found = execute_plain(rt.alloc(), &mut source, &[], &mut out, 1000, false);
+    let found = execute_plain(rt.alloc(), &mut source, &[], &mut out, 1000, NOTHING);
     assert!(&rt; found == WELL);
     assert_eq!(&rt; out.written(), b"5\n".as_slice());
 }

@@ -2,7 +2,9 @@
 // the script forms/write_tests.sh.
 
 mod called;
+mod conditional;
 mod counters;
+mod do_while;
 mod examples;
 mod in_pfor;
 mod in_pwhile;

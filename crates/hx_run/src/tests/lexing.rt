@@ -6,12 +6,13 @@ use std::alloc::{AllocError, Global};
 use std::process::Abort;
 use std::test::Fail;
 
-const KEYWORDS: [(&[u8], Mark); 13] = [
+const KEYWORDS: [(&[u8], Mark); 14] = [
     (b"int", Mark::Int),
     (b"void", Mark::Void),
     (b"if", Mark::If),
     (b"else", Mark::Else),
     (b"while", Mark::While),
+    (b"do", Mark::Do),
     (b"for", Mark::For),
     (b"pwhile", Mark::MarkedWhile),
     (b"pfor", Mark::MarkedFor),
@@ -22,7 +23,7 @@ const KEYWORDS: [(&[u8], Mark); 13] = [
     (b"emit", Mark::Emit),
 ];
 
-const PUNCTUATORS: [(&[u8], Mark); 41] = [
+const PUNCTUATORS: [(&[u8], Mark); 43] = [
     (b"(", Mark::OpenParen),
     (b")", Mark::CloseParen),
     (b"{", Mark::OpenBrace),
@@ -44,6 +45,8 @@ const PUNCTUATORS: [(&[u8], Mark); 41] = [
     (b"!", Mark::Exclamation),
     (b"<", Mark::Less),
     (b">", Mark::Greater),
+    (b"?", Mark::Question),
+    (b":", Mark::Colon),
     (b"++", Mark::Increment),
     (b"--", Mark::Decrement),
     (b"<<", Mark::ShiftLeft),
@@ -319,7 +322,7 @@ fn expect_byte(rt: &impl Abort, b: u8, answer: (u32, u32, u32), is_token: bool) 
     match b {
         b'\t' | b'\n' | b'\r' | b' ' => assert!(rt; answer == (0, 0, 0) && !is_token, "{b}"),
         b'a'..=b'z' | b'A'..=b'Z' | b'_' | b'0'..=b'9' => assert!(rt; is_token, "{b}"),
-        _ if b"(){}[],;=+-*/%&|^~!<>".contains(&b) => assert!(rt; is_token, "{b}"),
+        _ if b"(){}[],;=+-*/%&|^~!<>?:".contains(&b) => assert!(rt; is_token, "{b}"),
         _ => assert_eq!(rt; answer, (1, 1, 1), "{b}"),
     }
 }

@@ -77,7 +77,7 @@ fn in_blocks(alloc: Global, blocks: usize) -> Result<Vec<u8>, AllocError> {
 
 #[test]
 fn faults_have_their_places(rt: HostRuntime) {
-    let rows: [(&[u8], u32, u32, u32); 71] = [
+    let rows: [(&[u8], u32, u32, u32); 74] = [
         (b"int main(){ print(1) }", 10, 1, 22),
         (b"int main(){ int x = 1 +; }", 10, 1, 24),
         (b"int main(){ print(--1); }", 10, 1, 19),
@@ -85,8 +85,11 @@ fn faults_have_their_places(rt: HostRuntime) {
         (b"int", 10, 1, 4),
         (b"", 0, 0, 0),
         (b"int x", 10, 1, 6),
+        (b"int 7;", 10, 1, 5),
+        (b"int f(){ x 1; }", 10, 1, 12),
+        (b"int f(){ x y; }", 10, 1, 12),
         (b"int x\n  y;", 10, 2, 3),
-        (b"int do=1, while1, iff; int main(){}", 0, 0, 0),
+        (b"int do1=1, while1, iff; int main(){}", 0, 0, 0),
         (b"int while;", 10, 1, 5),
         (b"int x, f();", 10, 1, 9),
         (b"void x;", 10, 1, 7),

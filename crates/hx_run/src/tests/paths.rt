@@ -119,9 +119,9 @@ fn refuses_sources(rt: HostRuntime) -> Result<(), Fail> {
     refused(
         &rt,
         alloc,
-        b"int a[65536]; int b; int main(){}",
+        b"int a[262144]; int b; int main(){}",
         26,
-        at(1, 19),
+        at(1, 20),
     );
     Ok(())
 }
@@ -148,11 +148,11 @@ fn refuses_settings_before_input(rt: HostRuntime) {
         ..TWO_WORKERS
     };
     refuses_run(&rt, alloc, none, 60);
-    let nine = Settings {
-        workers: 9,
+    let seventeen = Settings {
+        workers: 17,
         ..TWO_WORKERS
     };
-    refuses_run(&rt, alloc, nine, 60);
+    refuses_run(&rt, alloc, seventeen, 60);
     let no_marks = Settings {
         marks: 0,
         ..TWO_WORKERS

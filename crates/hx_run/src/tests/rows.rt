@@ -205,6 +205,64 @@ fn calls_numbers_and_faults(rt: HostRuntime) {
     }
 }
 
+// The conditional operator and `do`.
+#[test]
+fn choices_and_do(rt: HostRuntime) {
+    let rows = [
+        normal(
+            b"int main(){ int i=0; do { print(i); i++; } while(i<2); print(i<2 ? 7 : i>2 ? 8 : 9); }",
+            b"0\n1\n9\n",
+            &[],
+            0,
+            0,
+        ),
+        normal(
+            b"int main(){ int x=0; print(x==0 ? 5 : 1/x); }",
+            b"5\n",
+            &[],
+            0,
+            0,
+        ),
+        normal(
+            b"int main(){ int i=0; do { i++; if(i==2) continue; print(i); } while(i<3); }",
+            b"1\n3\n",
+            &[],
+            0,
+            0,
+        ),
+        normal(
+            b"int s; int main(){ pfor(int i=0;i<3;i++){ int j=0; do { s+=i; j++; } while(j<2); } print(s); }",
+            b"6\n",
+            &[6],
+            1,
+            3,
+        ),
+        Row {
+            end: fault(FaultKind::ZeroDivisor, 1, 47),
+            ..normal(
+                b"int main(){ int x=0; print(7); print(x ? 5 : 1/x); }",
+                b"7\n",
+                &[],
+                0,
+                0,
+            )
+        },
+        Row {
+            end: fault(FaultKind::IndexOutOfRange, 1, 64),
+            ..normal(
+                b"int a[2]; int main(){ pfor(int i=0;i<3;i++) do print(i); while(a[i+1]); }",
+                b"0\n1\n",
+                &[0, 0],
+                1,
+                1,
+            )
+        },
+    ];
+    for row in rows {
+        holds(&rt, rt.alloc(), row);
+    }
+}
+
 // Where C leaves something open and the language doesn't, outside of a region and inside.
 #[test]
 fn what_c_leaves_open(rt: HostRuntime) {

@@ -1,7 +1,9 @@
-// Tables of a few words: filled, refused another, emptied, and laid over a store.
+// Tables of a few words: filled, refused another, emptied, and laid over a store. And the place of a word among others.
 
 use hx_buffer::buffer::WriteBuffer;
+use hx_marks::find_tag;
 use hx_marks::marks::{Entry, Full, Marks};
+use std::alloc::{AllocError, Global};
 use std::process::Abort;
 use std::test::Fail;
 
@@ -110,5 +112,69 @@ fn emptied_marks_have_their_room_again(rt: HostRuntime) -> Result<(), Fail> {
 fn marks_without_room_are_full(rt: HostRuntime) -> Result<(), Fail> {
     let mut marks = Marks::with_capacity(rt.alloc(), 0)?;
     marks_so(&rt, &mut marks, 0, 0, Err(Full));
+    Ok(())
+}
+
+// So many words, no two of which are the same, and none of which is 1; they fall.
+fn words_without_1(alloc: Global, count: u32) -> Result<Vec<u32>, AllocError> {
+    let mut words = Vec::new(alloc);
+    for k in 0..count {
+        words.push(1_000_000u32.wrapping_sub(k.wrapping_mul(7)))?;
+    }
+    Ok(words)
+}
+
+fn finds(rt: &impl Abort, words: &[u32], place: usize) {
+    assert!(rt; place < words.len());
+    assert_eq!(rt; find_tag(words, words[place]), Some(place));
+}
+
+#[test]
+fn each_of_up_to_64_words_is_found(rt: HostRuntime) -> Result<(), Fail> {
+    for count in 0..65 {
+        let words = words_without_1(rt.alloc(), count)?;
+        for place in 0..words.len() {
+            finds(&rt, words.as_slice(), place);
+        }
+        assert_eq!(rt; find_tag(words.as_slice(), 1), None);
+    }
+    Ok(())
+}
+
+#[test]
+fn first_and_last_of_4096_words_are_found(rt: HostRuntime) -> Result<(), Fail> {
+    let words = words_without_1(rt.alloc(), 4096)?;
+    for place in [0, 15, 16, 4080, 4095] {
+        finds(&rt, words.as_slice(), place);
+    }
+    assert_eq!(rt; find_tag(words.as_slice(), 1), None);
+    Ok(())
+}
+
+#[test]
+fn least_of_several_places_is_told(rt: HostRuntime) {
+    let mut words = [3; 35];
+    assert_eq!(rt; find_tag(&words, 3), Some(0));
+    words[33] = 4;
+    words[34] = 4;
+    assert_eq!(rt; find_tag(&words, 4), Some(33));
+    words[18] = 4;
+    words[31] = 4;
+    assert_eq!(rt; find_tag(&words, 4), Some(18));
+}
+
+// Marks of so many words in an order that neither rises nor falls, each with its own value; then each is read.
+#[test]
+fn marks_of_100_words_keep_each_value(rt: HostRuntime) -> Result<(), Fail> {
+    let mut marks = Marks::with_capacity(rt.alloc(), 100)?;
+    for k in 0u8..100 {
+        let word = u32::from(k) * 37 % 100;
+        marks_so(&rt, &mut marks, word, i32::from(k), Ok(()));
+    }
+    marks_so(&rt, &mut marks, 100, 0, Err(Full));
+    for k in 0u8..100 {
+        assert_eq!(rt; marks.get(u32::from(k) * 37 % 100), Some(i32::from(k)));
+    }
+    assert_eq!(rt; marks.get(100), None);
     Ok(())
 }

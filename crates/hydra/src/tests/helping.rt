@@ -53,6 +53,7 @@ fn tells_commands_and_options(rt: HostRuntime) {
     let replay = [
         "<SCHEDULE>",
         "--entry <N>",
+        "--events",
         "--steps <N>",
         "--workers <N>",
         "[default: 1]",

@@ -1,7 +1,7 @@
 // Schedules, replayed.
 
 use crate::tests::{SUM, TWO_TURNS, done_by, expect, shows};
-use hx_answer::{NoTrace, Schedule, trace_of};
+use hx_answer::{NoTrace, Schedule, Shown, replay_of};
 use hx_tree::outcome::Settings;
 use std::alloc::Global;
 use std::fs;
@@ -14,13 +14,13 @@ use std::thread::Threads;
 const WHOLE: &str = "01010110011110000";
 
 const LEFT: &[u8] =
-    b"state left\nturns 2\nrepeats 1\nviolations 1\nrestarts 1\nholds 0\nabandons 0\ndiscarded 0\n";
+    b"state left\nturns 2\nrepeats 1\nviolations 1\nrestarts 1\nholds 0\nabandons 0\ndiscarded 0\nspared 0\n";
 
 const RUNNING: &[u8] =
-    b"state running\nturns 0\nrepeats 0\nviolations 1\nrestarts 1\nholds 0\nabandons 0\ndiscarded 0\n";
+    b"state running\nturns 0\nrepeats 0\nviolations 1\nrestarts 1\nholds 0\nabandons 0\ndiscarded 0\nspared 0\n";
 
 const OPENED: &[u8] =
-    b"state running\nturns 0\nrepeats 0\nviolations 0\nrestarts 0\nholds 0\nabandons 0\ndiscarded 0\n";
+    b"state running\nturns 0\nrepeats 0\nviolations 0\nrestarts 0\nholds 0\nabandons 0\ndiscarded 0\nspared 0\n";
 
 const NO_ENTRY: &[u8] = b"hydra: no such region entry\n";
 
@@ -60,13 +60,14 @@ fn asked(digits: &[u8]) -> Schedule<'_> {
             buffer: 64,
         },
         digits,
+        shown: Shown::Trace,
     }
 }
 
 // The first word of the store that a schedule leaves settled.
 fn first_word(alloc: Global, digits: &[u8]) -> Option<i32> {
-    let trace = trace_of(alloc, TWO_TURNS, &[], &asked(digits)).ok()?;
-    trace.store.as_slice().first().copied()
+    let replayed = replay_of(alloc, TWO_TURNS, &[], &asked(digits)).ok()?;
+    replayed.told.trace.store.as_slice().first().copied()
 }
 
 #[test]
@@ -74,7 +75,7 @@ fn settles_stores(rt: HostRuntime) {
     let all = WHOLE.as_bytes();
     assert_eq!(&rt; first_word(rt.alloc(), all), Some(2));
     assert_eq!(&rt; first_word(rt.alloc(), &all[..5]), Some(0));
-    let refused = trace_of(rt.alloc(), TWO_TURNS, &[], &asked(b"012")).err();
+    let refused = replay_of(rt.alloc(), TWO_TURNS, &[], &asked(b"012")).err();
     assert_eq!(&rt;
         refused.map(|why| matches!(why, NoTrace::Schedule(_))),
         Some(true)
@@ -145,14 +146,25 @@ fn prints_what_a_region_has_settled(rt: HostRuntime) -> Result<(), Fail> {
     let source = b"int main(){ pwhile(1) return 7; }";
     let words = ["hydra", "replay", p, "000", "--workers", "1"];
     let wanted =
-        b"state returned 7\nturns 0\nrepeats 0\nviolations 0\nrestarts 0\nholds 0\nabandons 0\ndiscarded 0\n";
+        b"state returned 7\nturns 0\nrepeats 0\nviolations 0\nrestarts 0\nholds 0\nabandons 0\ndiscarded 0\nspared 0\n";
     shows(&rt, p, source, &words, wanted, b"", 0)?;
     let source = b"int main(){ pwhile(1){ print(5); emit(65); print(1/0); } }";
     let words = ["hydra", "replay", p, "00000", "--workers", "1"];
     let wanted =
-        b"5\nAstate fault 1 at 1:51\nturns 0\nrepeats 0\nviolations 0\nrestarts 0\nholds 0\nabandons 0\ndiscarded 0\n";
+        b"5\nAstate fault 1 at 1:51\nturns 0\nrepeats 0\nviolations 0\nrestarts 0\nholds 0\nabandons 0\ndiscarded 0\nspared 0\n";
     shows(&rt, p, source, &words, wanted, b"", 0)?;
     Ok(())
+}
+
+// Iteration 0 stores a word that iteration 2 has read of iteration 1.
+#[test]
+fn replays_a_covered_store(rt: HostRuntime) -> Result<(), Fail> {
+    let p = "hydra-test-covered.hc";
+    let source = b"int d; int main(){ pfor(int i=0;i<3;i++){ if(i<2) d=i+4; else print(d); } }";
+    let words = ["hydra", "replay", p, "0121200011222000", "--workers", "3"];
+    let spared =
+        b"5\nstate left\nturns 3\nrepeats 0\nviolations 0\nrestarts 0\nholds 0\nabandons 0\ndiscarded 0\nspared 1\n";
+    shows(&rt, p, source, &words, spared, b"", 0)
 }
 
 // What is replayed in docs/REPLAYING.md, beside the schedule with a violation.
@@ -160,8 +172,13 @@ fn prints_what_a_region_has_settled(rt: HostRuntime) -> Result<(), Fail> {
 fn replays_lessons(rt: HostRuntime) -> Result<(), Fail> {
     let p = "hydra-test-lessons.hc";
     let forwarded =
-        b"state left\nturns 2\nrepeats 0\nviolations 0\nrestarts 0\nholds 0\nabandons 0\ndiscarded 0\n";
+        b"state left\nturns 2\nrepeats 0\nviolations 0\nrestarts 0\nholds 0\nabandons 0\ndiscarded 0\nspared 0\n";
     replays(&rt, p, "00011100110000", forwarded, b"", 0)?;
+    let source = b"int d; int main(){ pfor(int i=0;i<2;i++){ if(i==0) d=0; else print(d); } }";
+    let words = ["hydra", "replay", p, "0110100111000", "--workers", "2"];
+    let spared =
+        b"0\nstate left\nturns 2\nrepeats 0\nviolations 0\nrestarts 0\nholds 0\nabandons 0\ndiscarded 0\nspared 1\n";
+    shows(&rt, p, source, &words, spared, b"", 0)?;
     let source = b"int a; int done; int main(){ pwhile(done<1){ a=5; done=1; } }";
     let words = [
         "hydra",
@@ -174,6 +191,6 @@ fn replays_lessons(rt: HostRuntime) -> Result<(), Fail> {
         "1",
     ];
     let held =
-        b"state left\nturns 1\nrepeats 0\nviolations 1\nrestarts 1\nholds 2\nabandons 0\ndiscarded 0\n";
+        b"state left\nturns 1\nrepeats 0\nviolations 1\nrestarts 1\nholds 2\nabandons 0\ndiscarded 0\nspared 0\n";
     shows(&rt, p, source, &words, held, b"", 0)
 }

@@ -12,10 +12,10 @@ const DIVIDES: &[u8] =
     b"int d; int main(){ pfor(int i=0;i<2;i++){ if(i==0) d=2; else print(10/d); } }";
 
 const REPORT: &[u8] =
-    b"5\nend normal 0\nregions 1\nturns 2\nrepeats 0\nviolations 0\nrestarts 0\nholds 0\nabandons 0\ndiscarded 0\n";
+    b"5\nend normal 0\nregions 1\nturns 2\nrepeats 0\nviolations 0\nrestarts 0\nholds 0\nabandons 0\ndiscarded 0\nspared 0\n";
 
 const FAULT_REPORT: &[u8] =
-    b"0\n1\n2\n3\nend fault 2 at 1:46\nregions 1\nturns 4\nrepeats 0\nviolations 0\nrestarts 0\nholds 0\nabandons 0\ndiscarded 0\n";
+    b"0\n1\n2\n3\nend fault 2 at 1:46\nregions 1\nturns 4\nrepeats 0\nviolations 0\nrestarts 0\nholds 0\nabandons 0\ndiscarded 0\nspared 0\n";
 
 #[test]
 fn reports_runs(rt: HostRuntime) -> Result<(), Fail> {

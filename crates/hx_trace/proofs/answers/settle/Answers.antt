@@ -4,8 +4,8 @@ use Rattle.hx_board.specs.Calls.{Does, settled_answer, SettlesFrame}
 use Rattle.hx_trace.proofs.Turns.{settle_goes}
 use Rattle.hx_trace.proofs.answers.settle.Goals as goal
 
-pub returns-in-Again : goal.returns-in-Again
-returns-in-Again c =
+pub returns-in-Again-clause-moves : goal.returns-in-Again-clause-moves
+returns-in-Again-clause-moves c =
     let x = c.args.worker.now in
     let g = c.settle_own.new.frame in
     let does = subst (λ r. Does c.args.board.now (Settle c.args.head x.frame.frame true) (settled_answer r g.frame) c.settle_own.new.self) c.in-Again.is c.settle_own.ensures.does in

@@ -4,8 +4,8 @@ use Rattle.hx_board.specs.Calls.{Does, started_answer, StartsFrame}
 use Rattle.hx_trace.proofs.Turns.{start_goes}
 use Rattle.hx_trace.proofs.answers.start.Goals as goal
 
-pub returns-in-Go : goal.returns-in-Go
-returns-in-Go c =
+pub returns-in-Go-clause-moves : goal.returns-in-Go-clause-moves
+returns-in-Go-clause-moves c =
     let x = c.args.worker.now in
     let g = c.start_own.new.frame in
     let does = subst (λ r. Does c.args.board.now (Start c.args.number true) (started_answer r g.frame) c.start_own.new.self) c.in-Go.is c.start_own.ensures.does in

@@ -23,7 +23,7 @@ invariant_of-self c =
     let inv = c.self.invariant in
     let kept = abandon_kept (view_of c.self.inside) c.args.worker c.saturating_add-self-inside.result (does c) inv.kept in
     subst (λ (s : SlotsView). Kept (record c.self.inside { slots = s; counts = record c.self.inside.counts { abandons = c.saturating_add-self-inside.result } })) (sym (c.restart_from.ensures.done c.if-restart_from.true))
-    (record { fits = inv.fits; opened = inv.opened; is_opened = inv.is_opened; kept = kept; rooms = inv.rooms; room = inv.room })
+    (record { fits = inv.fits; opened = inv.opened; is_opened = inv.is_opened; kept = kept; rooms = inv.rooms; room = inv.room; own_room = inv.own_room })
 
 pub returns-then-restart_from : goal.returns-then-restart_from
 returns-then-restart_from c =

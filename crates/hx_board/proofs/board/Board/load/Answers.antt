@@ -22,4 +22,4 @@ invariant_of-self-in-New-1 c =
     let asked = told ∙ ap (λ (r : Capacities). found r.marks c.args.worker c.args.attempt c.args.word c.index-committed.result.now in_.slots.active) inv.rooms ∙ ap (λ u. found in_.capacities.marks c.args.worker c.args.attempt c.args.word u in_.slots.active) read in
     let kept = load_kept b c.args.worker c.args.attempt c.args.word c.in-Known.value over asked inv.kept in
     subst (λ (s : SlotsView). Kept (record in_ { slots = s })) (sym after)
-    (record { fits = inv.fits; opened = inv.opened; is_opened = inv.is_opened; kept = kept; rooms = inv.rooms; room = inv.room })
+    (record { fits = inv.fits; opened = inv.opened; is_opened = inv.is_opened; kept = kept; rooms = inv.rooms; room = inv.room; own_room = inv.own_room })

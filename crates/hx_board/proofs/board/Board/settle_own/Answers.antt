@@ -99,7 +99,7 @@ invariant_of-self-in-GoesOn c =
     let stored = subst (λ st. IsKept (record done { store = st })) (sym g.store) g.kept in
     let kept = subst (λ ts. IsKept (record done { store = (with_items c.self.inside.store c.drain_first.new.store).items; text = ts })) (sym g.text) stored in
     subst (λ (s : SlotsView). Kept (record c.self.inside { slots = s; store = with_items c.self.inside.store c.drain_first.new.store; text = c.takes_effect.new.text; is_out = true })) (sym g.slots)
-    (record { fits = inv.fits; opened = inv.opened; is_opened = inv.is_opened; kept = kept; rooms = inv.rooms; room = c.takes_effect.ensures.room })
+    (record { fits = inv.fits; opened = inv.opened; is_opened = inv.is_opened; kept = kept; rooms = inv.rooms; room = c.takes_effect.ensures.room; own_room = inv.own_room })
 
 pub returns-in-GoesOn-clause-does : goal.returns-in-GoesOn-clause-does
 returns-in-GoesOn-clause-does c =
@@ -199,7 +199,7 @@ invariant_of-self-in-Passes c =
     let printed = subst (λ ts. IsKept (record done { store = items; text = ts })) (sym g.text) stored in
     let kept = subst (λ cs. IsKept (record done { store = items; text = c.takes_effect.new.text.items; counts = cs })) (sym g.counts) printed in
     subst (λ (s : SlotsView). Kept (record c.self.inside { slots = s; head = c.self.inside.head + 1; store = with_items c.self.inside.store c.drain_first-in-Passes.new.store; text = c.takes_effect.new.text; is_out = false; counts = counted c })) (sym g.slots)
-    (record { fits = inv.fits; opened = inv.opened; is_opened = inv.is_opened; kept = kept; rooms = inv.rooms; room = c.takes_effect.ensures.room })
+    (record { fits = inv.fits; opened = inv.opened; is_opened = inv.is_opened; kept = kept; rooms = inv.rooms; room = c.takes_effect.ensures.room; own_room = inv.own_room })
 
 pub returns-else-self-clause-does : goal.returns-else-self-clause-does
 returns-else-self-clause-does c =
@@ -271,7 +271,7 @@ invariant_of-self-in-Ends c =
     let printed = subst (λ ts. IsKept (record done { store = items; text = ts })) (sym g.text) stored in
     let kept = subst (λ cs. IsKept (record done { store = items; text = c.takes_effect.new.text.items; counts = cs })) (sym g.counts) printed in
     subst (λ (s : SlotsView). Kept (record c.self.inside { slots = s; store = with_items c.self.inside.store c.drain_first-in-Ends.new.store; text = c.takes_effect.new.text; exit = Some c.in-Ends.exit; is_out = false; counts = dropped_counts c })) (sym g.slots)
-    (record { fits = inv.fits; opened = inv.opened; is_opened = inv.is_opened; kept = kept; rooms = inv.rooms; room = c.takes_effect.ensures.room })
+    (record { fits = inv.fits; opened = inv.opened; is_opened = inv.is_opened; kept = kept; rooms = inv.rooms; room = c.takes_effect.ensures.room; own_room = inv.own_room })
 
 pub returns-in-Ends-clause-does : goal.returns-in-Ends-clause-does
 returns-in-Ends-clause-does c =

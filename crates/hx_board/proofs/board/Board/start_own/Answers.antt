@@ -59,7 +59,7 @@ invariant_of-self-2 c =
     let b = view_of c.self.inside in
     let kept = start_kept b c.args.worker c.begin.new.self _ (omega (arith, c.len-active.ensures, c.if-self-active.false, inv.kept.numbers)) (next c) inv.kept in
     subst (λ (s : SlotsView). Kept (record c.self.inside { opening = c.begin.new.self; slots = s })) (sym c.begin-2.ensures)
-    (record { fits = inv.fits; opened = inv.opened; is_opened = inv.is_opened; kept = kept; rooms = inv.rooms; room = inv.room })
+    (record { fits = inv.fits; opened = inv.opened; is_opened = inv.is_opened; kept = kept; rooms = inv.rooms; room = inv.room; own_room = inv.own_room })
 
 pub returns-clause-does : goal.returns-clause-does
 returns-clause-does c =

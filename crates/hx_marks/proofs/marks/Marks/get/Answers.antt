@@ -1,18 +1,19 @@
-use Rattle.std.proofs.Common.{rules, arith, ◌≡◌, Some, sym, ap}
+use Rattle.std.proofs.Common.{rules, ◌≡◌, Some, sym, ap}
 use Rattle.hx_marks.specs.Table.{MapView, look}
-use Rattle.hx_marks.proofs.Tables.{seen_at, seen_other, seen_past_end}
+use Rattle.hx_marks.proofs.Columns.{slice_rises, seen_least, seen_nowhere}
 use Rattle.hx_marks.proofs.marks.Marks.get.Goals as goal
 
-pub returns-then-place-len : goal.returns-then-place-len
-returns-then-place-len c =
-    sym (seen_past_end c.self.inside.entries.items c.args.self.now.entries c.args.word c.place-place.result (ap (λ (v : MapView). v.entries) c.self.view_is) c.place-place.ensures (omega (arith, c.if-place-len.true)))
+pub search-requires : goal.search-requires
+search-requires c =
+    slice_rises c.self.inside.words.items c.as_slice.result.now c.self.inside.values.items c.args.self.now.entries c.as_slice.ensures.value (ap (λ (v : MapView). v.entries) c.self.view_is) c.self.invariant.0 c.self.invariant.1
 
-pub returns-then-entry-word : goal.returns-then-entry-word
-returns-then-entry-word c =
-    let found : look c.args.self.now.entries c.args.word ≡ Some c.index-entry.result.now.value =
-    seen_at c.self.inside.entries.items c.args.self.now.entries c.args.word c.place-place.result (ap (λ (v : MapView). v.entries) c.self.view_is) c.place-place.ensures c.index-entry.result.now (omega (arith, c.if-place-len.false)) c.index-entry.ensures c.if-entry-word.true in
+pub returns-in-Ok : goal.returns-in-Ok
+returns-in-Ok c =
+    let place = c.in-Ok.ensures.found in
+    let found : look c.args.self.now.entries c.args.word ≡ Some c.index.result.now =
+    seen_least c.self.inside.words.items c.as_slice.result.now c.self.inside.values.items c.args.self.now.entries c.as_slice.ensures.value (ap (λ (v : MapView). v.entries) c.self.view_is) c.self.invariant.0 c.self.invariant.1 c.args.word c.in-Ok.place c.index.result.now place.0 place.1 place.2 c.index.ensures in
     search rules
 
-pub returns-else-entry-word : goal.returns-else-entry-word
-returns-else-entry-word c =
-    sym (seen_other c.self.inside.entries.items c.args.self.now.entries c.args.word c.place-place.result (ap (λ (v : MapView). v.entries) c.self.view_is) c.place-place.ensures c.self.invariant.0 c.index-entry.result.now (omega (arith, c.if-place-len.false)) c.index-entry.ensures c.if-entry-word.false)
+pub returns-in-Err : goal.returns-in-Err
+returns-in-Err c =
+    sym (seen_nowhere c.self.inside.words.items c.as_slice.result.now c.self.inside.values.items c.args.self.now.entries c.as_slice.ensures.value (ap (λ (v : MapView). v.entries) c.self.view_is) c.self.invariant.0 c.self.invariant.1 c.args.word c.in-Err.field-0 c.in-Err.ensures.missing.1)

@@ -1,35 +1,63 @@
 use Rattle.std.proofs.lemmas.Grind.{common_steps}
 use Rattle.std.proofs.Common.{◌≡◌, ◌<◌, [], ◌∷◌, ◌++◌, map, length, refl, ap, arith}
-use Rattle.std.proofs.lemmas.Result.{err_from_is_err_and}
+use Rattle.std.proofs.lemmas.Result.{err_from_is_err_and, on_ok_weaker}
 use Rattle.std.proofs.lemmas.List.{map_push}
 use Rattle.hx_tree.specs.declared.token.Mark.TheVariants as mark
 use Rattle.hx_tree.specs.View.{expr_of}
 use Rattle.hx_tree.specs.Height.{height}
 use Rattle.hx_grammar.specs.Reading.{listed, expr_at}
 use Rattle.hx_parse.proofs.Marks.{behind_shorter, operator_shorter}
-use Rattle.hx_parse.proofs.Loops.{listed_no_first, commas_end, commas_go_on, commas_fail, no_arguments, arguments_are, arguments_fail, arguments_stay_open, chain_begins, chain_no_operand, chain_ends, chain_too_deep, chain_goes_on, chain_no_right, heights-push}
+use Rattle.hx_parse.proofs.Loops.{listed_no_first, commas_end, commas_go_on, commas_fail, no_arguments, arguments_are, arguments_fail, arguments_stay_open, chain_begins, chain_no_operand, chain_ends, chain_too_deep, chain_goes_on, chain_no_right, heights-push, no_room, no_test, no_choice, no_question, test_too_high, choice_is}
+use Rattle.hx_parse.proofs.parser.Parser.+expr.Goals.{expr-then-layer-lt-ALL-via-then-layer-lt-ALL, expr-then-layer-lt-ALL-via-else-layer-lt-ALL+then-not-take}
 use Rattle.hx_parse.proofs.parser.Parser.+expr.Goals as goal
 
 pub expr-returns-then-room-eq0-clause-read : goal.expr-returns-then-room-eq0-clause-read
-unfolding expr_at
-expr-returns-then-room-eq0-clause-read t c = rw (c.if-room-eq0.true) refl
+expr-returns-then-room-eq0-clause-read t c = rw (c.if-room-eq0.true) (no_room c.args.layer c.args.self.now)
 
-pub expr-returns-in_err-left-clause-read : goal.expr-returns-in_err-left-clause-read
-expr-returns-in_err-left-clause-read t c =
+pub expr-returns-in_err-test-clause-read : goal.expr-returns-in_err-test-clause-read
+expr-returns-in_err-test-clause-read t c =
     let p = err_from_is_err_and c.from_residual.result c.from_residual.ensures.1 in
-    rw (p.1, p.2) (chain_no_operand c.in_err-left.field-0.0 c.args.room c.args.layer c.args.self.now (omega arith) c.in_err-left.ensures.read)
+    rw (p.1, p.2) (no_test c.in_err-test.field-0.0 c.args.room c.args.layer c.args.self.now (omega arith) c.in_err-test.ensures.read)
 
-pub expr-loop-op-init : goal.expr-loop-op-init
-expr-loop-op-init t c = record {
-  chained = chain_begins c.args.room c.args.layer c.args.self.now c.operand.new.self (expr_of c.in_ok-left.left.expr) (omega arith) c.in_ok-left.ensures.read;
+pub expr-returns-then-layer-lt-ALL-clause-read : goal.expr-returns-then-layer-lt-ALL-clause-read
+expr-returns-then-layer-lt-ALL-clause-read t c =
+    elim c.then-layer-lt-ALL.branch [
+      | expr-then-layer-lt-ALL-via-then-layer-lt-ALL w ↦
+          rw w.self-is (no_choice c.args.room c.args.layer c.args.self.now c.chained.new.self (expr_of c.in_ok-test.test.expr) (omega arith) c.in_ok-test.ensures.read (omega (arith, w.if-layer-lt-ALL.true)))
+      | expr-then-layer-lt-ALL-via-else-layer-lt-ALL+then-not-take w ↦
+          rw (w.self-is, w.if-not-take.ensures.1) (no_question c.args.room c.args.layer c.args.self.now c.chained.new.self (expr_of c.in_ok-test.test.expr) (omega arith) c.in_ok-test.ensures.read w.if-not-take.ensures.0)
+    ]
+
+pub expr-returns-then-test-room-clause-read : goal.expr-returns-then-test-room-clause-read
+expr-returns-then-test-room-clause-read t c =
+    test_too_high c.args.room c.args.layer c.args.self.now c.chained.new.self c.take.new.self (expr_of c.in_ok-test.test.expr) (omega arith) c.in_ok-test.ensures.read (omega arith) c.if-not-take.ensures
+    (omega (arith, c.if-test-room.true, c.in_ok-test.ensures.height.0))
+
+pub expr-returns-clause-read : goal.expr-returns-clause-read
+expr-returns-clause-read t c =
+    let low : height (expr_of c.in_ok-test.test.expr) < c.args.room = omega (arith, c.if-test-room.false, c.in_ok-test.ensures.height.0, c.in_ok-test.ensures.height.1) in
+    rw (choice_is c.args.room c.args.layer c.args.self.now c.chained.new.self c.take.new.self (expr_of c.in_ok-test.test.expr) (omega arith) c.in_ok-test.ensures.read (omega arith) c.if-not-take.ensures low) c.arms.ensures.read
+
+pub expr-returns-clause-shorter : goal.expr-returns-clause-shorter
+expr-returns-clause-shorter t c =
+    on_ok_weaker c.arms.result (λ h. omega (arith, h, behind_shorter mark.Question c.chained.new.self c.take.new.self c.if-not-take.ensures, c.in_ok-test.ensures.shorter)) c.arms.ensures.shorter
+
+pub chained-returns-in_err-left-clause-read : goal.chained-returns-in_err-left-clause-read
+chained-returns-in_err-left-clause-read t c =
+    let p = err_from_is_err_and c.from_residual.result c.from_residual.ensures.1 in
+    rw (p.1, p.2) (chain_no_operand c.in_err-left.field-0.0 c.args.room c.args.layer c.args.self.now c.in_err-left.ensures.read)
+
+pub chained-loop-op-init : goal.chained-loop-op-init
+chained-loop-op-init t c = record {
+  chained = chain_begins c.args.room c.args.layer c.args.self.now c.operand.new.self (expr_of c.in_ok-left.left.expr) c.in_ok-left.ensures.read;
   is_height = c.in_ok-left.ensures.height.0;
   is_low = omega (arith, c.in_ok-left.ensures.height.1);
   is_shorter = c.in_ok-left.ensures.shorter;
   is_room = omega arith;
 }
 
-pub expr-loop-op-preserved : goal.expr-loop-op-preserved
-expr-loop-op-preserved t c =
+pub chained-loop-op-preserved : goal.chained-loop-op-preserved
+chained-loop-op-preserved t c =
     let low : height (expr_of c.loop-op.left.expr) < c.args.room = omega arith in
     record {
       chained = rw (c.in_ok-left-2.ensures.tree) (chain_goes_on c.args.room c.args.layer c.args.self.now c.loop-op.self c.take_operator.new.self c.expr.new.self (expr_of c.loop-op.left.expr) (expr_of c.in_ok-right.right.expr) c.in-Some.op c.in-Some.pos c.loop-op.invariant.chained c.in-Some.ensures low (rw (← c.layer_of.ensures) c.in_ok-right.ensures.read));
@@ -39,18 +67,18 @@ expr-loop-op-preserved t c =
       is_room = omega arith;
     }
 
-pub expr-returns-then-left-room-clause-read : goal.expr-returns-then-left-room-clause-read
-expr-returns-then-left-room-clause-read t c =
+pub chained-returns-then-left-room-clause-read : goal.chained-returns-then-left-room-clause-read
+chained-returns-then-left-room-clause-read t c =
     chain_too_deep c.args.room c.args.layer c.args.self.now c.loop-op.self c.take_operator.new.self (expr_of c.loop-op.left.expr) c.in-Some.op c.in-Some.pos c.loop-op.invariant.chained c.in-Some.ensures (omega arith)
 
-pub expr-returns-in_err-right-clause-read : goal.expr-returns-in_err-right-clause-read
-expr-returns-in_err-right-clause-read t c =
+pub chained-returns-in_err-right-clause-read : goal.chained-returns-in_err-right-clause-read
+chained-returns-in_err-right-clause-read t c =
     let low : height (expr_of c.loop-op.left.expr) < c.args.room = omega arith in
     let p = err_from_is_err_and c.from_residual-in_err-right.result c.from_residual-in_err-right.ensures.1 in
     rw (p.1, p.2) (chain_no_right c.in_err-right.field-0.0 c.args.room c.args.layer c.args.self.now c.loop-op.self c.take_operator.new.self (expr_of c.loop-op.left.expr) c.in-Some.op c.in-Some.pos c.loop-op.invariant.chained c.in-Some.ensures low (rw (← c.layer_of.ensures) c.in_err-right.ensures.read))
 
-pub expr-returns-clause-read : goal.expr-returns-clause-read
-expr-returns-clause-read t c =
+pub chained-returns-clause-read : goal.chained-returns-clause-read
+chained-returns-clause-read t c =
     rw (c.in_default.ensures.1) (chain_ends c.args.room c.args.layer c.args.self.now c.loop-op.self (expr_of c.loop-op.left.expr) c.loop-op.invariant.chained c.in_default.ensures.0)
 
 pub arguments-returns-then-take-clause-read : goal.arguments-returns-then-take-clause-read
@@ -62,7 +90,7 @@ arguments-returns-then-take-clause-shorter t c = omega (arith, behind_shorter ma
 pub arguments-returns-in_err-first-clause-read : goal.arguments-returns-in_err-first-clause-read
 arguments-returns-in_err-first-clause-read t c =
     let p = err_from_is_err_and c.from_residual.result c.from_residual.ensures.1 in
-    rw (p.1, p.2) (arguments_fail c.in_err-first.field-0.0 (expr_at c.args.room) c.args.self.now c.if-take.ensures.0 (listed_no_first c.in_err-first.field-0.0 (expr_at c.args.room 10) c.args.self.now (rw (c.if-take.ensures.1) at c.in_err-first.ensures.read)))
+    rw (p.1, p.2) (arguments_fail c.in_err-first.field-0.0 (expr_at c.args.room) c.args.self.now c.if-take.ensures.0 (listed_no_first c.in_err-first.field-0.0 (expr_at c.args.room 11) c.args.self.now (rw (c.if-take.ensures.1) at c.in_err-first.ensures.read)))
 
 pub arguments-loop-self-smaller : goal.arguments-loop-self-smaller
 arguments-loop-self-smaller t c = omega (arith, behind_shorter mark.Comma c.loop-self.self c.take-in-loop-self.new.self c.loop-self-test.ensures, c.in_ok-next.ensures.shorter)
@@ -71,7 +99,7 @@ pub arguments-loop-self-preserved : goal.arguments-loop-self-preserved
 arguments-loop-self-preserved t c =
     let e : map expr_of c.push-in-loop-self.new.self.items ≡ map expr_of c.loop-self.all.items ++ expr_of c.in_ok-next.next.expr ∷ [] = rw c.in_ok-push-2.ensures.items (map_push _ c.loop-self.all.items c.in_ok-next.next.expr) in
     record {
-      goes = rw e (commas_go_on (expr_at c.args.room 10) (listed (expr_at c.args.room 10) c.args.self.now) (map expr_of c.loop-self.all.items) (expr_of c.in_ok-next.next.expr) c.loop-self.self c.take-in-loop-self.new.self c.expr-in-loop-self.new.self c.loop-self.invariant.goes c.loop-self-test.ensures c.in_ok-next.ensures.read c.in_ok-next.ensures.shorter);
+      goes = rw e (commas_go_on (expr_at c.args.room 11) (listed (expr_at c.args.room 11) c.args.self.now) (map expr_of c.loop-self.all.items) (expr_of c.in_ok-next.next.expr) c.loop-self.self c.take-in-loop-self.new.self c.expr-in-loop-self.new.self c.loop-self.invariant.goes c.loop-self-test.ensures c.in_ok-next.ensures.read c.in_ok-next.ensures.shorter);
       is_height = rw (e, heights-push) (omega (arith, c.max-height.ensures, c.in_ok-next.ensures.height.0));
       is_low = omega (arith, c.max-height.ensures, c.in_ok-next.ensures.height.1);
       is_shorter = omega (arith, behind_shorter mark.Comma c.loop-self.self c.take-in-loop-self.new.self c.loop-self-test.ensures, c.in_ok-next.ensures.shorter);
@@ -80,17 +108,17 @@ arguments-loop-self-preserved t c =
 pub arguments-returns-in_err-next-clause-read : goal.arguments-returns-in_err-next-clause-read
 arguments-returns-in_err-next-clause-read t c =
     let p = err_from_is_err_and c.from_residual-in_err-next.result c.from_residual-in_err-next.ensures.1 in
-    rw (p.1, p.2) (arguments_fail c.in_err-next.field-0.0 (expr_at c.args.room) c.args.self.now c.if-take.ensures.0 (commas_fail c.in_err-next.field-0.0 (expr_at c.args.room 10) (listed (expr_at c.args.room 10) c.args.self.now) (map expr_of c.loop-self.all.items) c.loop-self.self c.take-in-loop-self.new.self c.loop-self.invariant.goes c.loop-self-test.ensures c.in_err-next.ensures.read))
+    rw (p.1, p.2) (arguments_fail c.in_err-next.field-0.0 (expr_at c.args.room) c.args.self.now c.if-take.ensures.0 (commas_fail c.in_err-next.field-0.0 (expr_at c.args.room 11) (listed (expr_at c.args.room 11) c.args.self.now) (map expr_of c.loop-self.all.items) c.loop-self.self c.take-in-loop-self.new.self c.loop-self.invariant.goes c.loop-self-test.ensures c.in_err-next.ensures.read))
 
 pub arguments-returns-in_err-expect-clause-read : goal.arguments-returns-in_err-expect-clause-read
 arguments-returns-in_err-expect-clause-read t c =
     let p = err_from_is_err_and c.from_residual-in_err-expect.result c.from_residual-in_err-expect.ensures.1 in
-    let h = commas_end (expr_at c.args.room 10) (listed (expr_at c.args.room 10) c.args.self.now) (map expr_of c.loop-self.all.items) c.loop-self.self c.loop-self.invariant.goes c.loop-self-test.ensures.0 in
+    let h = commas_end (expr_at c.args.room 11) (listed (expr_at c.args.room 11) c.args.self.now) (map expr_of c.loop-self.all.items) c.loop-self.self c.loop-self.invariant.goes c.loop-self-test.ensures.0 in
     rw (p.1, p.2) (arguments_stay_open c.in_err-expect.field-0.0 (expr_at c.args.room) c.args.self.now c.loop-self.self (map expr_of c.loop-self.all.items) c.if-take.ensures.0 h (rw (c.loop-self-test.ensures.1) at c.in_err-expect.ensures.read))
 
 pub arguments-returns-clause-read : goal.arguments-returns-clause-read
 arguments-returns-clause-read t c =
-    let h = commas_end (expr_at c.args.room 10) (listed (expr_at c.args.room 10) c.args.self.now) (map expr_of c.loop-self.all.items) c.loop-self.self c.loop-self.invariant.goes c.loop-self-test.ensures.0 in
+    let h = commas_end (expr_at c.args.room 11) (listed (expr_at c.args.room 11) c.args.self.now) (map expr_of c.loop-self.all.items) c.loop-self.self c.loop-self.invariant.goes c.loop-self-test.ensures.0 in
     arguments_are (expr_at c.args.room) c.args.self.now c.loop-self.self c.expect.new.self (map expr_of c.loop-self.all.items) c.if-take.ensures.0 h (rw (c.loop-self-test.ensures.1) at c.in_ok-expect.ensures.read)
 
 pub arguments-returns-clause-shorter : goal.arguments-returns-clause-shorter
@@ -153,68 +181,68 @@ expr-returns-then-room-eq0-clause-height t c = grind (arith, common_steps)
 pub expr-returns-then-room-eq0-clause-shorter : goal.expr-returns-then-room-eq0-clause-shorter
 expr-returns-then-room-eq0-clause-shorter t c = grind (arith, common_steps)
 
-pub expr-overflow_sub-room : goal.expr-overflow_sub-room
-expr-overflow_sub-room t c = grind (arith, common_steps)
+pub chained-overflow_sub-room : goal.chained-overflow_sub-room
+chained-overflow_sub-room t c = grind (arith, common_steps)
 
-pub expr-operand-requires : goal.expr-operand-requires
-expr-operand-requires t c = grind (arith, common_steps)
+pub chained-operand-requires : goal.chained-operand-requires
+chained-operand-requires t c = grind (arith, common_steps)
 
-pub expr-returns-in_err-left-clause-height : goal.expr-returns-in_err-left-clause-height
-expr-returns-in_err-left-clause-height t c = grind (arith, common_steps)
+pub chained-returns-in_err-left-clause-height : goal.chained-returns-in_err-left-clause-height
+chained-returns-in_err-left-clause-height t c = grind (arith, common_steps)
 
-pub expr-returns-in_err-left-clause-shorter : goal.expr-returns-in_err-left-clause-shorter
-expr-returns-in_err-left-clause-shorter t c = grind (arith, common_steps)
+pub chained-returns-in_err-left-clause-shorter : goal.chained-returns-in_err-left-clause-shorter
+chained-returns-in_err-left-clause-shorter t c = grind (arith, common_steps)
 
-pub expr-returns-then-left-room-clause-height : goal.expr-returns-then-left-room-clause-height
-expr-returns-then-left-room-clause-height t c = grind (arith, common_steps)
+pub chained-returns-then-left-room-clause-height : goal.chained-returns-then-left-room-clause-height
+chained-returns-then-left-room-clause-height t c = grind (arith, common_steps)
 
-pub expr-returns-then-left-room-clause-shorter : goal.expr-returns-then-left-room-clause-shorter
-expr-returns-then-left-room-clause-shorter t c = grind (arith, common_steps)
+pub chained-returns-then-left-room-clause-shorter : goal.chained-returns-then-left-room-clause-shorter
+chained-returns-then-left-room-clause-shorter t c = grind (arith, common_steps)
 
-pub expr-overflow_sub-layer_of : goal.expr-overflow_sub-layer_of
-expr-overflow_sub-layer_of t c = grind (arith, common_steps)
+pub chained-overflow_sub-layer_of : goal.chained-overflow_sub-layer_of
+chained-overflow_sub-layer_of t c = grind (arith, common_steps)
 
-pub expr-overflow_sub-room-in-Some : goal.expr-overflow_sub-room-in-Some
-expr-overflow_sub-room-in-Some t c = grind (arith, common_steps)
+pub chained-overflow_sub-room-in-Some : goal.chained-overflow_sub-room-in-Some
+chained-overflow_sub-room-in-Some t c = grind (arith, common_steps)
 
-pub expr-expr-requires : goal.expr-expr-requires
-expr-expr-requires t c = grind (arith, common_steps)
+pub chained-expr-requires : goal.chained-expr-requires
+chained-expr-requires t c = grind (arith, common_steps)
 
-pub expr-returns-in_err-right-clause-height : goal.expr-returns-in_err-right-clause-height
-expr-returns-in_err-right-clause-height t c = grind (arith, common_steps)
+pub chained-returns-in_err-right-clause-height : goal.chained-returns-in_err-right-clause-height
+chained-returns-in_err-right-clause-height t c = grind (arith, common_steps)
 
-pub expr-returns-in_err-right-clause-shorter : goal.expr-returns-in_err-right-clause-shorter
-expr-returns-in_err-right-clause-shorter t c = grind (arith, common_steps)
+pub chained-returns-in_err-right-clause-shorter : goal.chained-returns-in_err-right-clause-shorter
+chained-returns-in_err-right-clause-shorter t c = grind (arith, common_steps)
 
-pub expr-binary-requires-clause-left : goal.expr-binary-requires-clause-left
-expr-binary-requires-clause-left t c = grind (arith, common_steps)
+pub chained-binary-requires-clause-left : goal.chained-binary-requires-clause-left
+chained-binary-requires-clause-left t c = grind (arith, common_steps)
 
-pub expr-binary-requires-clause-right : goal.expr-binary-requires-clause-right
-expr-binary-requires-clause-right t c = grind (arith, common_steps)
+pub chained-binary-requires-clause-right : goal.chained-binary-requires-clause-right
+chained-binary-requires-clause-right t c = grind (arith, common_steps)
 
-pub expr-same-self : goal.expr-same-self
-expr-same-self t c = grind (arith, common_steps)
+pub chained-same-self : goal.chained-same-self
+chained-same-self t c = grind (arith, common_steps)
 
-pub expr-returns-in_err-left-2-clause-read : goal.expr-returns-in_err-left-2-clause-read
-expr-returns-in_err-left-2-clause-read t c = grind (arith, common_steps)
+pub chained-returns-in_err-left-2-clause-read : goal.chained-returns-in_err-left-2-clause-read
+chained-returns-in_err-left-2-clause-read t c = grind (arith, common_steps)
 
-pub expr-returns-in_err-left-2-clause-height : goal.expr-returns-in_err-left-2-clause-height
-expr-returns-in_err-left-2-clause-height t c = grind (arith, common_steps)
+pub chained-returns-in_err-left-2-clause-height : goal.chained-returns-in_err-left-2-clause-height
+chained-returns-in_err-left-2-clause-height t c = grind (arith, common_steps)
 
-pub expr-returns-in_err-left-2-clause-shorter : goal.expr-returns-in_err-left-2-clause-shorter
-expr-returns-in_err-left-2-clause-shorter t c = grind (arith, common_steps)
+pub chained-returns-in_err-left-2-clause-shorter : goal.chained-returns-in_err-left-2-clause-shorter
+chained-returns-in_err-left-2-clause-shorter t c = grind (arith, common_steps)
 
-pub expr-same-self-in-Some : goal.expr-same-self-in-Some
-expr-same-self-in-Some t c = grind (arith, common_steps)
+pub chained-same-self-in-Some : goal.chained-same-self-in-Some
+chained-same-self-in-Some t c = grind (arith, common_steps)
 
-pub expr-loop-op-smaller : goal.expr-loop-op-smaller
-expr-loop-op-smaller t c = grind (arith, common_steps)
+pub chained-loop-op-smaller : goal.chained-loop-op-smaller
+chained-loop-op-smaller t c = grind (arith, common_steps)
 
-pub expr-returns-clause-height : goal.expr-returns-clause-height
-expr-returns-clause-height t c = grind (arith, common_steps)
+pub chained-returns-clause-height : goal.chained-returns-clause-height
+chained-returns-clause-height t c = grind (arith, common_steps)
 
-pub expr-returns-clause-shorter : goal.expr-returns-clause-shorter
-expr-returns-clause-shorter t c = grind (arith, common_steps)
+pub chained-returns-clause-shorter : goal.chained-returns-clause-shorter
+chained-returns-clause-shorter t c = grind (arith, common_steps)
 
 pub marked-expr-requires : goal.marked-expr-requires
 marked-expr-requires t c = grind (arith, common_steps)

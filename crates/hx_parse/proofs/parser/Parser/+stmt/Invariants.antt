@@ -29,6 +29,9 @@ decreases-choice_behind l = 6 * l.room + 2
 abbrev pub decreases-while_loop : goal.decreases-while_loop
 decreases-while_loop l = 6 * l.room + 2
 
+abbrev pub decreases-do_loop : goal.decreases-do_loop
+decreases-do_loop l = 6 * l.room + 2
+
 abbrev pub decreases-for_loop : goal.decreases-for_loop
 decreases-for_loop l = 6 * l.room + 2
 

@@ -1,6 +1,8 @@
 use Rattle.std.proofs.Common.{arith, ◌<◌, ◌+◌, ◌++◌, ◌∷◌, [], length, ap, sym, ◌∙◌, subst}
 use Rattle.hx_slots.specs.Slot.{SlotView, slots_of}
 use Rattle.hx_slots.specs.Slots.{SlotsView, HaveRooms, IsFree, workers_of}
+use Rattle.hx_slots.specs.Index.{IsIndexOf}
+use Rattle.hx_slots.proofs.Kept.{begin_index}
 use Rattle.hx_slots.proofs.Workers.{place_for, workers_last}
 use Rattle.hx_slots.proofs.Rooms.{rooms_last, rooms_but_last, workers_stay, workers_with, long_workers}
 use Rattle.hx_slots.proofs.slots.Slots.begin.Goals as goal
@@ -32,4 +34,5 @@ invariant_of-self c =
       workers = workers_stay (length xs + length c.self.inside.free.items) _ _ _ (omega (arith, c.in-Ok.ensures.len, c.in-Some.ensures.len)) busy (workers_last _ c.args.worker (workers_of (slots_of xs)) known free inv.workers);
       active_fit = omega (arith, inv.active_fit, c.in-Ok.ensures.len, c.in-Ok.ensures.capacity, c.in-Some.ensures.len);
       free_fit = omega (arith, inv.free_fit, c.in-Ok.ensures.len, c.in-Some.ensures.capacity, c.in-Some.ensures.len);
+      index = subst (λ l. IsIndexOf c.self.inside.index.rows.items (slots_of l)) (sym items) (begin_index _ xs c.begin.new.self (ap (λ (x : SlotView). x.slot.marks) c.begin.ensures) inv.index);
     }

@@ -1,5 +1,7 @@
 use Rattle.std.proofs.Common.{arith, sym, subst}
-use Rattle.hx_slots.specs.Slots.{HaveRooms}
+use Rattle.hx_slots.specs.Slot.{slots_of}
+use Rattle.hx_slots.specs.Slots.{HaveRooms, AreApart, workers_of}
+use Rattle.hx_slots.proofs.Indexed.{apart}
 use Rattle.hx_slots.proofs.Rooms.{rooms_last, rooms_but_last}
 use Rattle.hx_slots.proofs.slots.Slots.drop_all.Goals as goal
 
@@ -13,7 +15,11 @@ loop-slot-preserved c =
         all = omega (arith, kept.all, c.in-Ok.ensures.len, c.in-Some.ensures.len);
         active_fit = omega (arith, kept.active_fit, c.in-Some.ensures.capacity);
         free_fit = omega (arith, kept.free_fit, c.in-Ok.ensures.capacity);
+        index = kept.index;
       },
       c.loop-slot.invariant.1,
       c.loop-slot.invariant.2,
     )
+
+pub forget_from-requires-clause-apart : goal.forget_from-requires-clause-apart
+forget_from-requires-clause-apart c = subst (λ l. AreApart (workers_of (slots_of l))) (sym c.deref.ensures.value) (apart _ _ c.self.invariant.workers)

@@ -2,6 +2,9 @@ use Rattle.std.proofs.Common.{arith, ◌<◌, sym, subst, ap, ◌∙◌, length}
 use Rattle.std.proofs.lemmas.List.{length-map}
 use Rattle.hx_slots.specs.Slot.{SlotView, slots_of}
 use Rattle.hx_slots.specs.Slots.{SlotsView, HaveRooms, workers_of}
+use Rattle.hx_slots.specs.Index.{IsIndexOf}
+use Rattle.hx_slots.proofs.Indexed.{apart}
+use Rattle.hx_slots.proofs.Kept.{pass_step}
 use Rattle.hx_slots.proofs.Rooms.{rooms_at, rooms_last, rooms_but_first, workers_but_first, workers_stay}
 use Rattle.hx_slots.proofs.slots.Slots.pass_first.Goals as goal
 
@@ -19,4 +22,5 @@ invariant_of-self c =
       workers = workers_stay _ _ _ _ (omega (arith, c.remove-first.ensures.len, c.in-Ok.ensures.len)) (ap (λ l. workers_of (slots_of l)) items) (workers_but_first _ xs inv.workers);
       active_fit = omega (arith, inv.active_fit, c.remove-first.ensures.len, c.remove-first.ensures.capacity, c.in-Ok.ensures.len);
       free_fit = omega (arith, inv.free_fit, c.remove-first.ensures.len, c.in-Ok.ensures.len, c.in-Ok.ensures.capacity);
+      index = subst (λ l. IsIndexOf c.forget.new.self.rows.items (slots_of l)) (sym items) (pass_step xs c.remove-first.result _ _ c.self.inside.index.rows.items c.forget.new.self.rows.items (omega (arith, some, long)) c.remove-first.ensures.value c.marks.ensures c.worker.ensures (apart _ _ inv.workers) inv.index c.forget.ensures);
     }

@@ -3,11 +3,14 @@ use Rattle.std.proofs.lemmas.List.{get_or_default}
 use Rattle.hx_marks.specs.Table.{put}
 use Rattle.hx_speculation.specs.Frame.{is_full}
 use Rattle.hx_speculation.specs.Board.{Capacities}
-use Rattle.hx_speculation.specs.Slots.{is_at, may_restart, restarted, written, with_write, StoreLost, BufferFull, NumbersEnd, Restarts}
+use Rattle.hx_speculation.specs.Slots.{is_at, is_marked, may_restart, restarted, written, with_write, StoreLost, BufferFull, NumbersEnd, Restarts}
 use Rattle.hx_slots.specs.Slot.{SlotView, slots_of, rooms_of, rooms_for}
-use Rattle.hx_slots.specs.Slots.{SlotsView, KeepsSlots, place_of, before_violated, workers_of}
+use Rattle.hx_slots.specs.Slots.{SlotsView, KeepsSlots, place_of, before_violated, workers_of, AreApart}
 use Rattle.hx_slots.proofs.Busy.{workers_after_store}
 use Rattle.hx_slots.proofs.Calls.{store_lost, store_full, store_ends, store_done, store_writes, first_fits}
+use Rattle.hx_slots.specs.Index.{IsIndexOf, AreReaders}
+use Rattle.hx_slots.proofs.Indexed.{apart}
+use Rattle.hx_slots.proofs.Kept.{store_index}
 use Rattle.hx_slots.proofs.Rooms.{rooms_at, rooms_set, rooms_same, same_long, workers_stay, slots_view, written_whole}
 use Rattle.hx_slots.proofs.slots.Slots.store.Goals as goal
 
@@ -33,6 +36,11 @@ returns-then-is_full-clause-written c =
     subst (λ (v : SlotsView). BufferFull ≡ written v.rooms.buffer c.args.worker c.args.attempt c.args.word c.args.value v.active) c.self.view_is
     (store_full c.self.inside.buffer c.args.worker c.args.attempt c.args.word c.args.value c.self.inside.active.items c.place_at-place.result _ c.index.result.now at lt refl full)
 
+pub first_violated-first-requires-clause-readers : goal.first_violated-first-requires-clause-readers
+first_violated-first-requires-clause-readers c =
+    subst (λ l. AreReaders c.readers-readers.result.bits c.args.word (slots_of l)) (sym c.deref-2.ensures.value)
+    (c.readers-readers.ensures (slots_of c.self.inside.active.items) (apart _ _ c.self.invariant.workers) c.self.invariant.index)
+
 pub may_restart-requires : goal.may_restart-requires
 may_restart-requires c =
     let at = place_is _ _ _ _ _ c.place_at-place.ensures c.deref.ensures.value in
@@ -49,6 +57,22 @@ returns-then-not-may_restart-clause-written c =
     let last = sym (c.if-not-may_restart.ensures ∙ ap (λ l. may_restart (slots_of (drop c.first_violated-first.result l))) c.deref-3.ensures.value) in
     subst (λ (v : SlotsView). NumbersEnd ≡ written v.rooms.buffer c.args.worker c.args.attempt c.args.word c.args.value v.active) c.self.view_is
     (store_ends c.self.inside.buffer c.args.worker c.args.attempt c.args.word c.args.value c.self.inside.active.items c.place_at-place.result c.first_violated-first.result c.index.result.now at lt first room last)
+
+pub is_marked-had_readers-requires-clause-readers : goal.is_marked-had_readers-requires-clause-readers
+is_marked-had_readers-requires-clause-readers c =
+    subst (λ l. AreReaders c.readers-readers.result.bits c.args.word (slots_of l)) (sym c.deref-4.ensures.value)
+    (c.readers-readers.ensures (slots_of c.self.inside.active.items) (apart _ _ c.self.invariant.workers) c.self.invariant.index)
+
+pub forget_from-requires : goal.forget_from-requires
+forget_from-requires c =
+    let at = place_is _ _ _ _ _ c.place_at-place.ensures c.deref.ensures.value in
+    let lt : c.place_at-place.result < length c.self.inside.active.items = omega (arith, c.if-place-len.false) in
+    let first : c.first_violated-first.result ≡ c.place_at-place.result + 1 + before_violated c.args.word c.args.value (slots_of (drop (c.place_at-place.result + 1) c.self.inside.active.items)) = first_is _ c.args.word _ _ _ _ _ c.first_violated-first.ensures (search rules) c.deref-2.ensures.value in
+    record {
+      from = omega (arith, first_fits c.self.inside.buffer c.args.worker c.args.attempt c.args.word c.args.value c.self.inside.active.items c.place_at-place.result c.first_violated-first.result c.index.result.now at lt first, c.deref-5.ensures.len);
+      apart = subst (λ l. AreApart (workers_of (slots_of l))) (sym c.deref-5.ensures.value) (apart _ _ c.self.invariant.workers);
+      index = subst (λ l. IsIndexOf c.self.inside.index.rows.items (slots_of l)) (sym c.deref-5.ensures.value) c.self.invariant.index;
+    }
 
 pub write-requires : goal.write-requires
 write-requires c =
@@ -103,12 +127,15 @@ invariant_of-self c =
     let set_long = length-set xs c.place_at-place.result c.write.new.self in
     let long = same_long _ c.restart.new.active (rooms_stay c) in
     let own = ap (λ (x : SlotView). x.rooms) (here c) ∙ rooms_at _ xs c.place_at-place.result c.index.result.now lt inv.active_rooms in
-    subst (λ l. KeepsSlots (rooms_for c.self.inside.marks c.self.inside.buffer) l c.self.inside.active.cap c.self.inside.free.items (vec_capacity c.self.inside.free)) (sym (now_is c)) (record {
+    subst (λ l. KeepsSlots (rooms_for c.self.inside.marks c.self.inside.buffer) l c.self.inside.active.cap c.self.inside.free.items (vec_capacity c.self.inside.free) c.forget_from.new.self.rows.items) (sym (now_is c)) (record {
       active_rooms = rooms_same _ _ c.restart.new.active (rooms_stay c) (rooms_set _ xs c.place_at-place.result c.write.new.self own inv.active_rooms);
       free_rooms = inv.free_rooms;
-      workers = workers_stay (length xs + length c.self.inside.free.items) _ _ _ (omega (arith, long, set_long)) (ap workers_of (writes c) ∙ workers_after_store c.args.worker c.args.attempt c.args.word c.args.value (Restarts 0) (slots_of xs)) inv.workers;
+      workers = workers_stay (length xs + length c.self.inside.free.items) _ _ _ (omega (arith, long, set_long)) (ap workers_of (writes c) ∙ workers_after_store c.args.worker c.args.attempt c.args.word c.args.value (Restarts 0 true) (slots_of xs)) inv.workers;
       active_fit = omega (arith, inv.active_fit, long, set_long);
       free_fit = omega (arith, inv.free_fit, long, set_long);
+      index = store_index _ xs c.place_at-place.result c.first_violated-first.result c.write.new.self c.index.result.now _ _ (ap (λ (x : SlotView). x.slot.worker) (here c)) (ap (λ (x : SlotView). x.slot.marks) (here c))
+          (c.restart.ensures.slots ∙ ap (λ l. slots_of (take c.first_violated-first.result l) ++ map restarted (slots_of (drop c.first_violated-first.result l))) c.deref_mut.ensures.value)
+          (subst (λ l. IsIndexOf c.forget_from.new.self.rows.items (slots_of (take c.first_violated-first.result l))) c.deref-5.ensures.value c.forget_from.ensures);
     })
 
 pub returns-clause-written : goal.returns-clause-written
@@ -119,8 +146,9 @@ returns-clause-written c =
     let room : is_full c.self.inside.buffer (get_or c.self.inside.active.items c.place_at-place.result c.index.result.now).slot.buffer c.args.word ≡ false = sym (c.if-is_full.ensures ∙ ap (λ (x : SlotView). is_full c.self.inside.buffer x.slot.buffer c.args.word) c.index.ensures) in
     let may = sym (c.if-not-may_restart.ensures ∙ ap (λ l. may_restart (slots_of (drop c.first_violated-first.result l))) c.deref-3.ensures.value) in
     let count : c.len-2.result - c.first_violated-first.result ≡ length (drop c.first_violated-first.result c.self.inside.active.items) = omega (arith, c.len-2.ensures, length-drop c.first_violated-first.result c.self.inside.active.items) in
-    subst (λ (v : SlotsView). Restarts (c.len-2.result - c.first_violated-first.result) ≡ written v.rooms.buffer c.args.worker c.args.attempt c.args.word c.args.value v.active) c.self.view_is
-    (ap Restarts count ∙ store_done c.self.inside.buffer c.args.worker c.args.attempt c.args.word c.args.value c.self.inside.active.items c.place_at-place.result c.first_violated-first.result c.index.result.now at lt first room may)
+    let had : c.is_marked-had_readers.result ≡ is_marked c.args.word (slots_of (drop (c.place_at-place.result + 1) c.self.inside.active.items)) = c.is_marked-had_readers.ensures ∙ ap (λ l. is_marked c.args.word (slots_of (drop (c.place_at-place.result + 1) l))) c.deref-4.ensures.value in
+    subst (λ (v : SlotsView). Restarts (c.len-2.result - c.first_violated-first.result) c.is_marked-had_readers.result ≡ written v.rooms.buffer c.args.worker c.args.attempt c.args.word c.args.value v.active) c.self.view_is
+    (ap₂ Restarts count had ∙ store_done c.self.inside.buffer c.args.worker c.args.attempt c.args.word c.args.value c.self.inside.active.items c.place_at-place.result c.first_violated-first.result c.index.result.now at lt first room may)
 
 pub returns-clause-after : goal.returns-clause-after
 returns-clause-after c =

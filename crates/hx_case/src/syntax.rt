@@ -1,0 +1,185 @@
+// Tokens that spell no program: what stands at the place, and what could.
+
+use crate::say::say;
+use hx_lex::{Span, Token, tokens};
+use hx_parse::{ParseError, parse};
+use hx_tree::token::{Kind, Mark, Pos};
+use std::alloc::{AllocError, Global};
+
+/// Tokens that are told together where each of them can stand at a place, and one by one where only some can.
+struct Group {
+    together: &'static [u8],
+    tokens: &'static [u8],
+}
+
+const EXPRESSION: Group = Group {
+    together: b"an expression",
+    tokens: b"1 ( ~ !",
+};
+
+const STATEMENT: Group = Group {
+    together: b"a statement",
+    tokens: b"{ ; if while for pwhile pfor break continue return print emit",
+};
+
+const OPERATOR: Group = Group {
+    together: b"an operator",
+    tokens: b"* / % + << >> < <= > >= == != & ^ | && ||",
+};
+
+const ASSIGNMENT: Group = Group {
+    together: b"an assignment",
+    tokens: b"= += -= *= /= %= <<= >>= &= ^= |= ++ --",
+};
+
+/// Tokens that are told by themselves, a name unless an expression or a statement was told, and `-` unless an expression or an
+/// operator was.
+const OTHERS: &[u8] = b"x - int void else ) } [ ] ,";
+
+/// What could stand at a place, as it is told: what is told together, and single tokens.
+#[derive(Drop)]
+struct Choices {
+    together: Vec<Vec<u8>>,
+    single: Vec<Vec<u8>>,
+}
+
+// The tokens of a text of ours.
+fn our_tokens(alloc: Global, text: &'static [u8]) -> Result<Vec<Token<'static>>, AllocError> {
+    tokens(alloc, text).map_err(|_| AllocError)
+}
+
+// Whether some program begins with these tokens and then with one of this kind, as far as the parser finds.
+fn can_follow(
+    alloc: Global,
+    before: &[Token<'_>],
+    kind: Kind,
+    pos: Pos,
+) -> Result<bool, AllocError> {
+    let mut line = Vec::with_capacity(alloc, before.len().saturating_add(1))?;
+    line.extend_from_slice(before)?;
+    line.push(Token {
+        kind,
+        text: b"x",
+        span: Span { start: 0, end: 1 },
+        pos,
+    })?;
+    match parse(alloc, line.as_slice()) {
+        Ok(_) => Ok(true),
+        Err(ParseError::Syntax(found)) => Ok(found != pos),
+        Err(ParseError::TooDeep) => Ok(false),
+        Err(ParseError::Memory) => Err(AllocError),
+    }
+}
+
+// A token as it is told.
+fn told(alloc: Global, token: &Token<'_>) -> Result<Vec<u8>, AllocError> {
+    match token.kind {
+        Kind::Name => say(alloc, &[b"a name"]),
+        Kind::Number(_) => say(alloc, &[b"a number"]),
+        Kind::Mark(_) => say(alloc, &[b"'", token.text, b"'"]),
+    }
+}
+
+// Puts what of a group can stand behind these tokens, and answers whether each of it can.
+fn put_group(
+    alloc: Global,
+    choices: &mut Choices,
+    before: &[Token<'_>],
+    group: &Group,
+    pos: Pos,
+) -> Result<bool, AllocError> {
+    let all = our_tokens(alloc, group.tokens)?;
+    let mut found = Vec::new(alloc);
+    for token in &all {
+        if can_follow(alloc, before, token.kind, pos)? {
+            found.push(told(alloc, token)?)?;
+        }
+    }
+    if found.len() == all.len() {
+        choices.together.push(say(alloc, &[group.together])?)?;
+        return Ok(true);
+    }
+    for text in found {
+        choices.single.push(text)?;
+    }
+    Ok(false)
+}
+
+// What can stand behind these tokens, at a place.
+fn choices_at(alloc: Global, before: &[Token<'_>], pos: Pos) -> Result<Choices, AllocError> {
+    let mut choices = Choices {
+        together: Vec::new(alloc),
+        single: Vec::new(alloc),
+    };
+    let expression = put_group(alloc, &mut choices, before, &EXPRESSION, pos)?;
+    let statement = put_group(alloc, &mut choices, before, &STATEMENT, pos)?;
+    let operator = put_group(alloc, &mut choices, before, &OPERATOR, pos)?;
+    put_group(alloc, &mut choices, before, &ASSIGNMENT, pos)?;
+    for token in &our_tokens(alloc, OTHERS)? {
+        let is_told = match token.kind {
+            Kind::Name => expression || statement,
+            Kind::Mark(Mark::Minus) => expression || operator,
+            _ => false,
+        };
+        if !is_told && can_follow(alloc, before, token.kind, pos)? {
+            choices.single.push(told(alloc, token)?)?;
+        }
+    }
+    Ok(choices)
+}
+
+// Puts texts behind a text, with a comma before each but the first of all, and an `or` before the last of all. So many are left.
+fn put_texts(text: &mut Vec<u8>, texts: &[Vec<u8>], left: usize) -> Result<usize, AllocError> {
+    let mut left = left;
+    for one in texts {
+        let between: &[u8] = if text.is_empty() {
+            b""
+        } else if left == 1 {
+            b" or "
+        } else {
+            b", "
+        };
+        text.extend_from_slice(between)?;
+        text.extend_from_slice(one.as_slice())?;
+        left = left.saturating_sub(1);
+    }
+    Ok(left)
+}
+
+// All choices as one text.
+fn listed(alloc: Global, choices: &Choices) -> Result<Vec<u8>, AllocError> {
+    let mut text = Vec::new(alloc);
+    let all = choices.together.len().saturating_add(choices.single.len());
+    let left = put_texts(&mut text, choices.together.as_slice(), all)?;
+    put_texts(&mut text, choices.single.as_slice(), left)?;
+    Ok(text)
+}
+
+/// What stands where no program goes on so, and what could stand there.
+pub(crate) fn no_program(alloc: Global, source: &[u8], pos: Pos) -> Result<Vec<u8>, AllocError> {
+    let all = tokens(alloc, source).map_err(|_| AllocError)?;
+    let count = all.iter().take_while(|token| token.pos != pos).count();
+    let (before, behind) = all.as_slice().split_at(count);
+    let choices = choices_at(alloc, before, pos)?;
+    let choices = listed(alloc, &choices)?;
+    match behind.first() {
+        Some(token) => say(
+            alloc,
+            &[
+                b"'",
+                token.text,
+                b"' can't stand here; ",
+                choices.as_slice(),
+                b" can.",
+            ],
+        ),
+        None => say(
+            alloc,
+            &[
+                b"The source can't end here; ",
+                choices.as_slice(),
+                b" can follow.",
+            ],
+        ),
+    }
+}

@@ -1,0 +1,8 @@
+//! What the words of a region are called: globals by their names, elements of arrays by name and place, and the locals that a region
+//! carries by the names that they have in its function.
+#![tactic(auto)]
+
+mod locals;
+mod names;
+
+pub use names::names_of;

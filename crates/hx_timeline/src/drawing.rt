@@ -1,0 +1,188 @@
+// A timeline as SVG.
+
+use crate::chart::{Attempt, Chart, Fate, Link, chart_of};
+use crate::labels::{put_label, put_number};
+use hx_trace::{Called, Event, Told};
+use std::alloc::{AllocError, Global};
+
+// Sizes, in pixels: what stands left of the lanes and above them, a lane, a row, and the box of an attempt within its lane.
+const LEFT: u64 = 48;
+
+const TOP: u64 = 40;
+
+const LANE: u64 = 212;
+
+const ROW: u64 = 26;
+
+const BOX: u64 = 188;
+
+const INSET: u64 = 12;
+
+/// A timeline as a picture, in the form SVG (W3C, Scalable Vector Graphics 1.1): a line for each event, numbered from 1, and a lane for
+/// each worker. Each attempt at an iteration is a box from its start to its end: plain where it was committed, hatched and with a broken
+/// edge where it was squashed, dotted where it was dropped, and with a thin edge where it runs still. An arrow leads from the store of a
+/// value to the load that it was forwarded to; a diamond stands at a store that violates, with a line to each attempt that it ends. An
+/// `Err` means that an allocation was refused.
+pub fn picture(alloc: Global, names: &[Called], told: &Told) -> Result<Vec<u8>, AllocError> {
+    let chart = chart_of(alloc, &told.events)?;
+    let mut svg = Vec::new(alloc);
+    put_opening(&mut svg, &chart)?;
+    for worker in 0..chart.lanes {
+        put_head(&mut svg, worker)?;
+    }
+    for attempt in &chart.attempts {
+        put_box(&mut svg, *attempt)?;
+    }
+    for link in &chart.violations {
+        put_violation(&mut svg, *link)?;
+    }
+    for link in &chart.forwards {
+        put_forward(&mut svg, *link)?;
+    }
+    for (row, event) in told.events.iter().enumerate() {
+        put_event(&mut svg, names, &told.trace.text, row, *event)?;
+    }
+    svg.extend_from_slice(b"</svg>\n")?;
+    Ok(svg)
+}
+
+// Where a lane begins, from the left.
+fn left_of(worker: u32) -> u64 {
+    LEFT.saturating_add(LANE.saturating_mul(u64::from(worker)))
+}
+
+// Where the middle of a row is, from the top.
+fn middle_of(row: usize) -> u64 {
+    TOP.saturating_add(ROW.saturating_mul(row as u64))
+        .saturating_add(ROW / 2)
+}
+
+// ` name="value"`
+fn put_size(svg: &mut Vec<u8>, name: &[u8], value: u64) -> Result<(), AllocError> {
+    svg.extend_from_slice(b" ")?;
+    svg.extend_from_slice(name)?;
+    svg.extend_from_slice(b"=\"")?;
+    put_number(svg, value)?;
+    svg.extend_from_slice(b"\"")
+}
+
+fn put_opening(svg: &mut Vec<u8>, chart: &Chart) -> Result<(), AllocError> {
+    let width = left_of(chart.lanes).saturating_add(INSET);
+    let height = middle_of(chart.rows).saturating_add(INSET);
+    svg.extend_from_slice(b"<svg xmlns=\"http://www.w3.org/2000/svg\"")?;
+    put_size(svg, b"width", width)?;
+    put_size(svg, b"height", height)?;
+    svg.extend_from_slice(b" font-family=\"sans-serif\" font-size=\"13\">\n")?;
+    svg.extend_from_slice(
+        b"<defs>\n\
+<pattern id=\"squashed\" width=\"7\" height=\"7\" patternUnits=\"userSpaceOnUse\">\
+<path d=\"M0 7L7 0\" stroke=\"#999\" stroke-width=\"1\"/></pattern>\n\
+<pattern id=\"dropped\" width=\"6\" height=\"6\" patternUnits=\"userSpaceOnUse\">\
+<circle cx=\"3\" cy=\"3\" r=\"1\" fill=\"#999\"/></pattern>\n\
+<marker id=\"tip\" markerWidth=\"9\" markerHeight=\"8\" refX=\"8\" refY=\"4\" orient=\"auto\">\
+<path d=\"M0 0L9 4L0 8z\"/></marker>\n\
+</defs>\n",
+    )?;
+    svg.extend_from_slice(b"<rect fill=\"white\"")?;
+    put_size(svg, b"width", width)?;
+    put_size(svg, b"height", height)?;
+    svg.extend_from_slice(b"/>\n")
+}
+
+fn put_head(svg: &mut Vec<u8>, worker: u32) -> Result<(), AllocError> {
+    svg.extend_from_slice(b"<text font-weight=\"bold\" text-anchor=\"middle\"")?;
+    put_size(svg, b"x", left_of(worker).saturating_add(INSET + BOX / 2))?;
+    put_size(svg, b"y", TOP - 16)?;
+    svg.extend_from_slice(b">worker ")?;
+    put_number(svg, worker)?;
+    svg.extend_from_slice(b"</text>\n")
+}
+
+// How the box of an attempt is drawn.
+fn style_of(fate: Fate) -> &'static [u8] {
+    match fate {
+        Fate::Runs => b" fill=\"white\" stroke=\"black\" stroke-width=\"0.7\"",
+        Fate::Committed => b" fill=\"white\" stroke=\"black\" stroke-width=\"2\"",
+        Fate::Squashed => {
+            b" fill=\"url(#squashed)\" stroke=\"black\" stroke-width=\"1.5\" stroke-dasharray=\"6 4\""
+        }
+        Fate::Dropped => {
+            b" fill=\"url(#dropped)\" stroke=\"black\" stroke-width=\"1.5\" stroke-dasharray=\"1.5 4\""
+        }
+    }
+}
+
+fn put_box(svg: &mut Vec<u8>, attempt: Attempt) -> Result<(), AllocError> {
+    let top = middle_of(attempt.first).saturating_sub(ROW / 2 - 2);
+    let bottom = middle_of(attempt.last).saturating_add(ROW / 2 - 2);
+    svg.extend_from_slice(b"<rect rx=\"3\"")?;
+    put_size(svg, b"x", left_of(attempt.worker).saturating_add(INSET))?;
+    put_size(svg, b"y", top)?;
+    put_size(svg, b"width", BOX)?;
+    put_size(svg, b"height", bottom.saturating_sub(top))?;
+    svg.extend_from_slice(style_of(attempt.fate))?;
+    svg.extend_from_slice(b"/>\n")
+}
+
+// The sides of two boxes that face each other, from the left.
+fn sides(link: Link) -> (u64, u64) {
+    let (from, to) = (left_of(link.from), left_of(link.to));
+    if link.from < link.to {
+        (from.saturating_add(INSET + BOX), to.saturating_add(INSET))
+    } else {
+        (from.saturating_add(INSET), to.saturating_add(INSET + BOX))
+    }
+}
+
+fn put_line(svg: &mut Vec<u8>, link: Link) -> Result<(), AllocError> {
+    let (from, to) = sides(link);
+    svg.extend_from_slice(b"<line stroke=\"black\"")?;
+    put_size(svg, b"x1", from)?;
+    put_size(svg, b"y1", middle_of(link.from_row))?;
+    put_size(svg, b"x2", to)?;
+    put_size(svg, b"y2", middle_of(link.to_row))
+}
+
+fn put_forward(svg: &mut Vec<u8>, link: Link) -> Result<(), AllocError> {
+    put_line(svg, link)?;
+    svg.extend_from_slice(b" stroke-width=\"1.5\" marker-end=\"url(#tip)\"/>\n")
+}
+
+// A thick line, and a diamond at the store.
+fn put_violation(svg: &mut Vec<u8>, link: Link) -> Result<(), AllocError> {
+    let (from, _) = sides(link);
+    let y = middle_of(link.from_row);
+    put_line(svg, link)?;
+    svg.extend_from_slice(b" stroke-width=\"3\"/>\n<path d=\"M")?;
+    put_number(svg, from.saturating_sub(7))?;
+    svg.extend_from_slice(b" ")?;
+    put_number(svg, y)?;
+    svg.extend_from_slice(b"l7 -7l7 7l-7 7z\"/>\n")
+}
+
+fn put_event(
+    svg: &mut Vec<u8>,
+    names: &[Called],
+    printed: &[u8],
+    row: usize,
+    event: Event,
+) -> Result<(), AllocError> {
+    let y = middle_of(row).saturating_add(4);
+    svg.extend_from_slice(b"<text fill=\"#555\" text-anchor=\"end\"")?;
+    put_size(svg, b"x", LEFT - 8)?;
+    put_size(svg, b"y", y)?;
+    svg.extend_from_slice(b">")?;
+    put_number(svg, row.saturating_add(1) as u64)?;
+    svg.extend_from_slice(
+        b"</text>\n<text text-anchor=\"middle\" paint-order=\"stroke\" stroke=\"white\" stroke-width=\"3\"",
+    )?;
+    put_size(
+        svg,
+        b"x",
+        left_of(event.worker).saturating_add(INSET + BOX / 2),
+    )?;
+    put_size(svg, b"y", y)?;
+    svg.extend_from_slice(b">")?;
+    put_label(svg, names, printed, event)?;
+    svg.extend_from_slice(b"</text>\n")
+}
