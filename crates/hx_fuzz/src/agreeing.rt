@@ -26,7 +26,9 @@ const RUNS: u32 = 2;
 
 /// What is told of a program that didn't come to one answer.
 const REFUSED: Trial = Trial::Disagrees("a program is refused");
+
 const BY_RUN: Trial = Trial::Disagrees("run and run_plain disagree");
+
 const BY_REPLAY: Trial = Trial::Disagrees("a schedule commits what one worker doesn't");
 
 // Workers and tables.

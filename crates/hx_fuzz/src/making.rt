@@ -29,12 +29,11 @@ const OPERATORS: [&[u8]; 18] = [
 ];
 
 /// How a place is changed by a value.
-const CHANGES: [&[u8]; 9] = [
-    b"=", b"=", b"=", b"+=", b"-=", b"*=", b"^=", b"|=", b"<<=",
-];
+const CHANGES: [&[u8]; 9] = [b"=", b"=", b"=", b"+=", b"-=", b"*=", b"^=", b"|=", b"<<="];
 
 /// What can be stored in, in `f` and in `main`: globals and locals.
 const PLACES_IN_F: [&[u8]; 4] = [b"g", b"h", b"x", b"y"];
+
 const PLACES_IN_MAIN: [&[u8]; 4] = [b"g", b"h", b"p", b"q"];
 
 /// Most loops are marked.
@@ -310,7 +309,9 @@ impl Maker {
     }
 
     fn program(&mut self) -> Result<(), AllocError> {
-        self.put(b"int g;int h=3;int a[8]={1,-2,3};int b[5];int in[4];int n_in;int f(int x,int y){")?;
+        self.put(
+            b"int g;int h=3;int a[8]={1,-2,3};int b[5];int in[4];int n_in;int f(int x,int y){",
+        )?;
         self.inner()?;
         self.put(b"return ")?;
         self.expression()?;

@@ -2,10 +2,10 @@
 
 ghost use Rattle.std.specs.Prelude.{◌≡◌};
 
-use hx_run::compile;
 use hx_board::State;
 use hx_code::code::Code;
 use hx_frame::Capacities;
+use hx_run::compile;
 use hx_trace::{Trace, TraceError, replay};
 use hx_tree::outcome::{Fault, FaultKind};
 use hx_tree::token::Pos;

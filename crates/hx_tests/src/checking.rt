@@ -1,11 +1,11 @@
 // What the checker says of sources: which are accepted, which refusal the others get and where, and what regions take along.
 
-use hx_run::{Refusal, compile};
 use hx_check::check::check;
 use hx_check::checked::Checked;
 use hx_check::resolved::{LoopKind, Program, Stmt, Words};
 use hx_lex::tokens;
 use hx_parse::parse;
+use hx_run::{Refusal, compile};
 use std::alloc::Global;
 use std::process::Abort;
 use std::test::Fail;

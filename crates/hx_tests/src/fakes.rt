@@ -5,11 +5,11 @@ ghost use Rattle.hx_board.specs.Board.{Setup};
 ghost use Rattle.hx_word.specs.Entry.{EntryFits};
 ghost use Rattle.hx_pool.specs.Setups.{setup_by};
 
-use hx_run::compile;
 use hx_board::{Alive, Board, Head, Headed, Job, Loaded, Settled, Started, State, Stored};
 use hx_code::code::Code;
 use hx_frame::{Capacities, Frame};
 use hx_pool::{Shared, Unwatched, work};
+use hx_run::compile;
 use hx_word::entry::Entry;
 use hx_word::plain::{Open, Paused, Plain};
 use std::alloc::Global;

@@ -119,11 +119,7 @@ fn store<M: Made>(
 }
 
 // One stretch, and the call that it stopped for; what the frame waits with, where it waits to be the head.
-fn step<M: Made>(
-    rt: &impl Abort,
-    kept: &mut Kept<'_, M>,
-    frame: &mut Frame<'_>,
-) -> Option<Action>
+fn step<M: Made>(rt: &impl Abort, kept: &mut Kept<'_, M>, frame: &mut Frame<'_>) -> Option<Action>
     ensures { StaysOwn frame.old frame.new }
 {
     match frame.run(1024) {
@@ -148,12 +144,7 @@ fn waits<M: Made>(rt: &impl Abort, kept: &mut Kept<'_, M>, frame: &mut Frame<'_>
 }
 
 // Gives a frame the worker's iteration.
-fn starts<M: Made>(
-    rt: &impl Abort,
-    kept: &mut Kept<'_, M>,
-    worker: u32,
-    frame: &mut Frame<'_>,
-)
+fn starts<M: Made>(rt: &impl Abort, kept: &mut Kept<'_, M>, worker: u32, frame: &mut Frame<'_>)
     requires worker { worker < M.setup.slots }
     requires own { IsOwnFrame M.setup frame.old }
     ensures { StaysOwn frame.old frame.new }
@@ -483,12 +474,7 @@ fn tries_at<W: Abort + Wait>(
 }
 
 // The first region of a code.
-fn tries_of<W: Abort + Wait>(
-    rt: &W,
-    alloc: Global,
-    code: &Code,
-    trial: Trial,
-) -> Result<(), Fail> {
+fn tries_of<W: Abort + Wait>(rt: &W, alloc: Global, code: &Code, trial: Trial) -> Result<(), Fail> {
     let Ok(plain) = Plain::new(alloc, code, &[]) else {
         return Err(Fail::from("no machine"));
     };
@@ -498,12 +484,7 @@ fn tries_of<W: Abort + Wait>(
     }
 }
 
-fn tries<W: Abort + Wait>(
-    rt: &W,
-    alloc: Global,
-    source: &[u8],
-    trial: Trial,
-) -> Result<(), Fail> {
+fn tries<W: Abort + Wait>(rt: &W, alloc: Global, source: &[u8], trial: Trial) -> Result<(), Fail> {
     let code = code_of(alloc, source)?;
     tries_of(rt, alloc, &code, trial)
 }

@@ -3,11 +3,11 @@
 ghost use Rattle.std.specs.Prelude.{IfOk};
 ghost use Rattle.hx_code.specs.Fits.{FitsLocal};
 
-use hx_run::compile;
 use hx_code::code::Code;
 use hx_code::local::Local;
 use hx_frame::action::{Action, Stop};
 use hx_frame::frame::{Capacities, Frame, Tag};
+use hx_run::compile;
 use std::alloc::Global;
 use std::process::Abort;
 use std::test::Fail;

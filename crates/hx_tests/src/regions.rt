@@ -3,9 +3,9 @@
 ghost use Rattle.std.specs.Prelude.{◌≡◌, IfOk};
 ghost use Rattle.hx_word.specs.Entry.{EndFits};
 
-use hx_run::compile;
 use hx_code::code::Code;
 use hx_code::word::Exit;
+use hx_run::compile;
 use hx_tree::outcome::End;
 use hx_word::entry::RegionEnd;
 use hx_word::plain::{Open, Paused, Plain, PlainError, Ran, Reached};

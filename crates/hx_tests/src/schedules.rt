@@ -53,7 +53,9 @@ fn traced(
 ) -> Result<Trace, TraceError>
     requires { EntryFits at.code.now at.region at.entry.now }
 {
-    replay(alloc, at.code, at.region, at.entry, workers, at.rooms, schedule)
+    replay(
+        alloc, at.code, at.region, at.entry, workers, at.rooms, schedule,
+    )
 }
 
 // Whether both have committed the same.
@@ -103,7 +105,10 @@ fn is_on_the_way(rt: &impl Abort, alloc: Global, at: Opening<'_>, way: &[Trace],
 {
     match traced(alloc, at, 3, schedule) {
         Ok(trace) => {
-            assert!(rt; way.iter().any(|known| is_same(known, &trace)), "{schedule:?}");
+            assert!(rt;
+                way.iter().any(|known| is_same(known, &trace)),
+                "{schedule:?}"
+            );
         }
         Err(_) => assert!(rt; false, "{schedule:?}"),
     }
@@ -204,8 +209,7 @@ fn a_list_that_is_walked(rt: HostRuntime) -> Result<(), Fail> {
 
 #[test]
 fn a_divisor_that_is_stored_before(rt: HostRuntime) -> Result<(), Fail> {
-    let source =
-        b"int d; int main(){ pfor(int i=0;i<2;i++){ if(i==0) d=2; else print(10/d); } }";
+    let source = b"int d; int main(){ pfor(int i=0;i<2;i++){ if(i==0) d=2; else print(10/d); } }";
     all_short_in(&rt, rt.alloc(), source, AMPLE)
 }
 

@@ -1,7 +1,7 @@
 // Whole executions over devices in memory, each of whose calls fails in turn.
 
-use hx_run::{Done, Mode, Refusal, Tail, Unwatched, execute, execute_plain};
 use hx_device::{MemorySink, MemorySource};
+use hx_run::{Done, Mode, Refusal, Tail, Unwatched, execute, execute_plain};
 use hx_tree::outcome::{End, Settings};
 use std::alloc::Global;
 use std::process::Abort;

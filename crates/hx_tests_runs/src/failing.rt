@@ -68,16 +68,7 @@ fn executed<R: Abort + Threads + Wait + Sync>(
         marks: 512,
         buffer: 64,
     };
-    execute(
-        alloc,
-        rt,
-        mode,
-        &mut source,
-        &[],
-        out,
-        settings,
-        &Unwatched,
-    )
+    execute(alloc, rt, mode, &mut source, &[], out, settings, &Unwatched)
 }
 
 // That nothing is written where a read fails. How many reads there are.

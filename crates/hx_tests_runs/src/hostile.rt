@@ -36,7 +36,11 @@ fn fronts_are_refused(rt: HostRuntime) {
         } else {
             10
         };
-        assert_eq!(&rt; refused(rt.alloc(), &BREAKS[..length]), wanted, "{length} bytes");
+        assert_eq!(&rt;
+            refused(rt.alloc(), &BREAKS[..length]),
+            wanted,
+            "{length} bytes"
+        );
     }
 }
 

@@ -1,10 +1,10 @@
 // The texts of refusals, and their numbers.
 
-use hx_run::Refusal;
 use hx_check::error::CheckError;
 use hx_lex::LexError;
 use hx_lower::LowerError;
 use hx_parse::ParseError;
+use hx_run::Refusal;
 use hx_tree::token::Pos;
 use std::alloc::{AllocError, Global};
 use std::process::Abort;
