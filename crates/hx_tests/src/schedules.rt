@@ -152,15 +152,15 @@ fn all_short_from(
     rt: &impl Abort,
     alloc: Global,
     code: &Code,
-    open: &Open<'_>,
+    opened: &Open<'_>,
     rooms: Capacities,
 ) -> Result<(), Fail>
-    requires { open.now.code ≡ code.now }
+    requires { opened.now.code ≡ code.now }
 {
-    let entry = open.entry(alloc)?;
+    let entry = opened.entry(alloc)?;
     let at = Opening {
         code,
-        region: open.region(),
+        region: opened.region(),
         entry: &entry,
         rooms,
     };
@@ -178,7 +178,7 @@ fn all_short_of(
         return Err(Fail::from("no machine"));
     };
     match plain.to_region(STEPS) {
-        Paused::At(open) => all_short_from(rt, alloc, code, &open, rooms),
+        Paused::At(opened) => all_short_from(rt, alloc, code, &opened, rooms),
         _ => Err(Fail::from("no region")),
     }
 }
