@@ -1,9 +1,13 @@
 // Programs and inputs of great size, none of which is refused for memory that is there.
 
-use hx_run::{compile, parse_input};
+use hx_run::{Unwatched, compile, parse_input, run};
+use hx_tree::outcome::{End, Fault, FaultKind, Settings};
+use hx_tree::token::Pos;
 use std::alloc::Global;
 use std::process::Abort;
+use std::sync::Wait;
 use std::test::Fail;
+use std::thread::Threads;
 
 // The number that a source is refused by, or 0.
 fn refused(alloc: Global, source: &[u8]) -> u32 {
@@ -105,4 +109,46 @@ fn reads_500000_numbers(rt: HostRuntime) -> Result<(), Fail> {
         Err(_) => assert!(&rt; false),
     }
     Ok(())
+}
+
+// That a program on all workers, with the largest tables, prints this and ends so.
+fn runs_to<R: Abort + Threads + Wait + Sync>(
+    rt: &R,
+    alloc: Global,
+    source: &[u8],
+    text: &[u8],
+    end: End,
+) {
+    let settings = Settings {
+        workers: 16,
+        marks: 4096,
+        buffer: 4096,
+    };
+    match run(alloc, rt, source, &[], settings, &Unwatched) {
+        Ok(finish) => {
+            assert_eq!(rt; finish.outcome.text.as_slice(), text);
+            assert!(rt; finish.outcome.end == end);
+        }
+        Err(_) => assert!(rt; false),
+    }
+}
+
+// A turn writes one word more than a write buffer holds, over a store of all words.
+#[test]
+fn fills_the_largest_tables(rt: HostRuntime) {
+    let source =
+        b"int a[262144]; int main(){ pfor(int i=0;i<32;i++){ for(int j=0;j<4097;j++) a[j*32+i]=i; } print(a[131103]); }";
+    runs_to(&rt, rt.alloc(), source, b"31\n", End::Normal(0));
+}
+
+// In a turn 64 calls are under way at once, and behind the loop one more.
+#[test]
+fn calls_at_the_limit(rt: HostRuntime) {
+    let source =
+        b"int f(int n){ if(n==0) return 0; return f(n-1)+1; } int main(){ pfor(int i=0;i<4;i++) print(f(62)); print(f(63)); }";
+    let end = End::Fault(Fault {
+        kind: FaultKind::CallTooDeep,
+        pos: Pos { line: 1, col: 41 },
+    });
+    runs_to(&rt, rt.alloc(), source, b"62\n62\n62\n62\n", end);
 }
