@@ -133,7 +133,8 @@ fn step<M: Made>(rt: &impl Abort, kept: &mut Kept<'_, M>, frame: &mut Frame<'_>)
 
 // Runs a frame until it waits to be the head.
 fn waits<M: Made>(rt: &impl Abort, kept: &mut Kept<'_, M>, frame: &mut Frame<'_>) -> Action
-    ensures { StaysOwn frame.old frame.new }
+    ensures stays { StaysOwn frame.old frame.new }
+    ensures own { IsOwnFrame M.setup frame.old → IsOwnFrame M.setup frame.new }
 {
     for _ in 0..MANY {
         if let Some(action) = step(rt, kept, frame) {
@@ -147,7 +148,7 @@ fn waits<M: Made>(rt: &impl Abort, kept: &mut Kept<'_, M>, frame: &mut Frame<'_>
 fn starts<M: Made>(rt: &impl Abort, kept: &mut Kept<'_, M>, worker: u32, frame: &mut Frame<'_>)
     requires worker { worker < M.setup.slots }
     requires own { IsOwnFrame M.setup frame.old }
-    ensures { StaysOwn frame.old frame.new }
+    ensures { IsOwnFrame M.setup frame.new }
 {
     match kept.board.start_own(worker, frame) {
         Started::Go { .. } => {}
@@ -183,8 +184,8 @@ fn settles<M: Made>(
 
 // Settles the turn of the head's iteration, from its start on.
 fn passes<M: Made>(rt: &impl Abort, kept: &mut Kept<'_, M>, frame: &mut Frame<'_>)
-    requires { IsOwnCode M.setup frame.old }
-    ensures { StaysOwn frame.old frame.new }
+    requires { IsOwnFrame M.setup frame.old }
+    ensures { IsOwnFrame M.setup frame.new }
 {
     let _action = waits(rt, kept, frame);
     let mut head = head_of(rt, kept, frame);
@@ -206,8 +207,8 @@ fn refuses<M: Made>(
     frame: &mut Frame<'_>,
     before: &Committed,
 )
-    requires { IsOwnCode M.setup frame.old }
-    ensures { StaysOwn frame.old frame.new }
+    requires { IsOwnFrame M.setup frame.old }
+    ensures { IsOwnFrame M.setup frame.new }
 {
     match kept.board.settle(head, frame) {
         Settled::NotThisFrame => {}
