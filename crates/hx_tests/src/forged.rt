@@ -52,7 +52,7 @@ struct Committed {
     text: Vec<u8>,
 }
 
-fn committed(alloc: Global, board: &Board<'_>) -> Result<Committed, AllocError> {
+fn committed_on(alloc: Global, board: &Board<'_>) -> Result<Committed, AllocError> {
     let (store, text, _) = board.settled();
     Ok(Committed {
         store: Vec::from_slice(alloc, store)?,
@@ -269,8 +269,8 @@ fn two_boards<M: Made + Send + Sync, W: Abort + Wait>(
     passes(rt, &mut other, &mut ahead);
     starts(rt, &mut other, 0, &mut ahead);
     let _print = waits(rt, &mut other, &mut ahead);
-    let of_one = committed(alloc, &one.board)?;
-    let of_other = committed(alloc, &other.board)?;
+    let of_one = committed_on(alloc, &one.board)?;
+    let of_other = committed_on(alloc, &other.board)?;
     let first = head_of(rt, &mut one, &frame);
     let second = head_of(rt, &mut other, &ahead);
     refuses(rt, &mut one, second, &mut frame, &of_one);
@@ -299,7 +299,7 @@ fn another_worker<M: Made + Send + Sync, W: Abort + Wait>(
     starts(rt, &mut kept, 0, &mut frame);
     let _print = waits(rt, &mut kept, &mut heads);
     let _print = waits(rt, &mut kept, &mut frame);
-    let before = committed(alloc, &kept.board)?;
+    let before = committed_on(alloc, &kept.board)?;
     let head = head_of(rt, &mut kept, &heads);
     refuses(rt, &mut kept, head, &mut frame, &before);
     kept.board.abandon(1);
@@ -332,7 +332,7 @@ fn squashed_attempt<M: Made + Send + Sync, W: Abort + Wait>(
     starts(rt, &mut kept, 1, &mut new);
     let _end = waits(rt, &mut kept, &mut new);
     assert_eq!(rt; (old.tagged().attempt, new.tagged().attempt), (1, 2));
-    let before = committed(alloc, &kept.board)?;
+    let before = committed_on(alloc, &kept.board)?;
     let head = head_of(rt, &mut kept, &new);
     refuses(rt, &mut kept, head, &mut old, &before);
     kept.board.abandon(1);
@@ -404,7 +404,7 @@ fn another_code<M: Made + Send + Sync, W: Abort + Wait>(
     let mut foreign = Frame::new(alloc, &code, ROOMS)?;
     let mut frame = Frame::new(alloc, job.code, ROOMS)?;
     let mut kept: Kept<'_, M> = kept_for(alloc, job, entry)?;
-    let before = committed(alloc, &kept.board)?;
+    let before = committed_on(alloc, &kept.board)?;
     gets_no_iteration(rt, job.code, &mut kept, &mut foreign);
     still_holds(rt, &kept.board, &before);
     kept.board.abandon(0);
