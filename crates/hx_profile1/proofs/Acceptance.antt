@@ -3,6 +3,7 @@ use Rattle.std.proofs.Common.{◌≡◌, ℕ, ◌+◌, ◌≤◌, ◌<◌, List,
 use Rattle.std.specs.Prelude.{option_map, flat_map, sum_by, slice_index_or, All, codes}
 use Rattle.std.proofs.lemmas.List.{length-map}
 use Rattle.std.proofs.lemmas.List.Elements.{All-map}
+use Rattle.std.proofs.lemmas.List.Sums.{sum_by-cons}
 use Rattle.hx_tree.specs.declared.limits.TheConstants.{HEIGHT_LIMIT, FUNCTION_LIMIT, PRIVATE_LIMIT, OPERAND_LIMIT}
 use Rattle.hx_tree.specs.declared.tree.Returns.{Returns}
 use Rattle.hx_tree.specs.declared.tree.Returns.TheVariants as returns
@@ -17,7 +18,7 @@ use Rattle.hx_profile1.specs.Accepted as old
 use Rattle.hx_profile1.specs.Meaning as old_meaning
 use Rattle.hx_profile1.specs.Lifted.{lift_expr, lift_exprs, lift_local, lift_place, lift_assignment, lift_init, lift_stmt, lift_part, lift_parts, lift_func, lift_item, lifted}
 use Rattle.hx_profile1.specs.Promises.{KeepsAcceptance}
-use Rattle.hx_profile1.proofs.Measures.{program_height, function_need, private_words}
+use Rattle.hx_profile1.proofs.Measures.{program_height, function_need, private_words, sums}
 use Rattle.hx_profile1.proofs.Meanings.{lifted_functions}
 
 -- ---- expressions
@@ -145,10 +146,14 @@ same_kinds [] = refl
 same_kinds (Globals gs ∷ is) = ap (λ l. old.item_kinds (Globals gs) ++ l) (same_kinds is)
 same_kinds (Function f ∷ is) = ap (λ l. old.item_kinds (Function f) ++ l) (same_kinds is)
 
+item_words : (i : Item) → new.item_words (lift_item i) ≡ old.item_words i
+item_words (Globals gs) = refl
+item_words (Function f) = refl
+
 same_words : (is : List Item) → sum_by new.item_words (map lift_item is) ≡ sum_by old.item_words is
 same_words [] = refl
-same_words (Globals gs ∷ is) = ap (λ n. old.item_words (Globals gs) + n) (same_words is)
-same_words (Function f ∷ is) = ap (λ n. old.item_words (Function f) + n) (same_words is)
+same_words (i ∷ is) =
+    sum_by-cons new.item_words (lift_item i) (map lift_item is) ∙ sums (item_words i) (same_words is) ∙ sym (sum_by-cons old.item_words i is)
 
 accepts_items : (p : Program) → All (old.AcceptsItem (old.kinds_of p)) p.items → All (new.AcceptsItem (new.kinds_of (lifted p))) (map lift_item p.items)
 accepts_items p h =

@@ -191,7 +191,7 @@ function_need f = maxes refl (parts_need f.body)
 
 -- ---- private words
 
-sums : {a a' b b' : ℕ} → a ≡ a' → b ≡ b' → a + b ≡ a' + b'
+pub sums : {a a' b b' : ℕ} → a ≡ a' → b ≡ b' → a + b ≡ a' + b'
 sums h k = λ i. h i + k i
 
 init_locals : (i : Init) → new_accepted.init_locals (lift_init i) ≡ old_accepted.init_locals i

@@ -2,6 +2,7 @@
 //! is. `specs/Promises.antt` says what that program keeps.
 #![tactic(auto)]
 
+pub mod laws;
 mod lift;
 pub mod p1;
 #[cfg(test)]
