@@ -5,3 +5,4 @@ pub mod Runs
 pub mod Meanings
 pub mod Measures
 pub mod Acceptance
+pub mod Kept
