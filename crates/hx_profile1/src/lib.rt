@@ -2,7 +2,6 @@
 //! is. `specs/Promises.antt` says what that program keeps.
 #![tactic(auto)]
 
-pub mod laws;
 mod lift;
 pub mod p1;
 #[cfg(test)]
