@@ -87,7 +87,7 @@ fn squares(alloc: Global) -> Result<p1::Program, AllocError> {
 fn is_squared(a: &Assignment) -> bool {
     match a {
         Assignment::Set(Place::Element(a, _), Expr::Binary(op, pos, _, _)) => {
-            a.text.as_slice() == b"a" && *op == BinaryOp::Strict(Operator::Mul) && *pos == at(51)
+            a.text.as_slice() == b"a".as_slice() && *op == BinaryOp::Strict(Operator::Mul) && *pos == at(51)
         }
         _ => false,
     }
