@@ -1,5 +1,5 @@
 -- A program of profile 1 that is accepted is accepted today.
-use Rattle.std.proofs.Common.{◌≡◌, ℕ, ◌+◌, ◌≤◌, ◌<◌, List, [], ◌∷◌, ◌++◌, length, Option, Some, None, map, refl, sym, ap, subst, ◌∙◌, arith}
+use Rattle.std.proofs.Common.{◌≡◌, ℕ, ◌+◌, ◌≤◌, List, [], ◌∷◌, ◌++◌, length, Option, Some, None, map, refl, sym, ap, subst, ◌∙◌, arith}
 use Rattle.std.specs.Prelude.{option_map, flat_map, sum_by, slice_index_or, All, codes}
 use Rattle.std.proofs.lemmas.List.{length-map}
 use Rattle.std.proofs.lemmas.List.Elements.{All-map}
@@ -7,13 +7,11 @@ use Rattle.std.proofs.lemmas.List.Sums.{sum_by-cons}
 use Rattle.hx_tree.specs.declared.limits.TheConstants.{HEIGHT_LIMIT, FUNCTION_LIMIT, PRIVATE_LIMIT, OPERAND_LIMIT}
 use Rattle.hx_tree.specs.declared.tree.Returns.{Returns}
 use Rattle.hx_tree.specs.declared.tree.Returns.TheVariants as returns
-use Rattle.hx_tree.specs.Tree as tree
-use Rattle.hx_tree.specs.Tree.{GlobalDecl, Shape, Scalar, Array}
+use Rattle.hx_tree.specs.Tree.{Shape, Scalar, Array}
 use Rattle.hx_tree.specs.World.{Map, look_up}
 use Rattle.hx_tree.specs.Accepted.{Kind, FunctionKind, Surroundings, IfThere, IsDistinct, in_scope, inside_loop}
 use Rattle.hx_tree.specs.Accepted as new
-use Rattle.hx_tree.specs.Meaning as new_meaning
-use Rattle.hx_profile1.specs.Tree.{Expr, Number, Variable, Element, Call, Paren, Unary, Binary, Exprs, no_exprs, expr_and, LocalDecl, Place, ToVariable, ToElement, Assignment, Set, Update, Increment, Decrement, Init, NoInit, InitLocals, InitAssign, ForClauses, Stmt, Block, Empty, Assign, CallStatement, Print, Emit, If, IfElse, While, For, Break, Continue, Return, Part, Locals, Statement, Parts, no_parts, part_and, Func, Item, Globals, Function, Program}
+use Rattle.hx_profile1.specs.Tree.{Expr, Number, Variable, Element, Call, Paren, Unary, Binary, Exprs, no_exprs, expr_and, LocalDecl, Place, ToVariable, ToElement, Assignment, Set, Update, Increment, Decrement, Init, NoInit, InitLocals, InitAssign, Stmt, Block, Empty, Assign, CallStatement, Print, Emit, If, IfElse, While, For, Break, Continue, Return, Part, Locals, Statement, Parts, no_parts, part_and, Func, Item, Globals, Function, Program}
 use Rattle.hx_profile1.specs.Accepted as old
 use Rattle.hx_profile1.specs.Meaning as old_meaning
 use Rattle.hx_profile1.specs.Lifted.{lift_expr, lift_exprs, lift_local, lift_place, lift_assignment, lift_init, lift_stmt, lift_part, lift_parts, lift_func, lift_item, lifted}
@@ -106,7 +104,7 @@ mutual
         accepts_init head.init (in_scope here) h,
         subst (λ inner. IfThere new.AcceptsExpr (option_map lift_expr head.test) inner) same (there old.AcceptsExpr new.AcceptsExpr lift_expr accepts_expr head.test (old.after_init head.init (in_scope here)) k),
         subst (λ inner. IfThere new.AcceptsAssignment (option_map lift_assignment head.step) inner) same (there old.AcceptsAssignment new.AcceptsAssignment lift_assignment accepts_assignment head.step (old.after_init head.init (in_scope here)) l),
-        subst (λ inner. new.AcceptsStmt (lift_stmt s) (inside_loop inner)) same (accepts_stmt s (inside_loop (old.after_init head.init (in_scope here))) m)
+        subst (λ inner. new.AcceptsStmt (lift_stmt s) (inside_loop inner)) same (accepts_stmt s (inside_loop (old.after_init head.init (in_scope here))) m),
       )
   accepts_stmt (Break place) here h = h
   accepts_stmt (Continue place) here h = h

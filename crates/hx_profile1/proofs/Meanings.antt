@@ -1,12 +1,9 @@
 -- A program of profile 1 means what today's means.
 use Rattle.std.proofs.Common.{◌≡◌, ℕ, zero, suc, ◌-◌, ◌≤◌, Bool, true, false, if◌then◌else◌, List, [], ◌∷◌, ◌++◌, length, Option, Some, None, ℤ, map, refl, sym, ap, subst, ◌∙◌}
-use Rattle.std.specs.Prelude.{cond, find, flat_map, option_map, bytes_eq, codes, zip, sum_by}
-use Rattle.std.proofs.Math.Path.{fun_ext}
+use Rattle.std.specs.Prelude.{cond, flat_map, option_map, bytes_eq, codes, zip, sum_by}
 use Rattle.hx_tree.specs.declared.limits.TheConstants.{CALL_LIMIT}
-use Rattle.hx_tree.specs.Tree as tree
 use Rattle.hx_tree.specs.Tree.{Name, GlobalDecl, param_names}
-use Rattle.hx_tree.specs.World.{World, Run}
-use Rattle.hx_tree.specs.Value.{Calling}
+use Rattle.hx_tree.specs.World.{World}
 use Rattle.hx_tree.specs.Effect.{Context}
 use Rattle.hx_tree.specs.Meaning.{texts_of, words_at_start, array_words, ending_of_main, Ending}
 use Rattle.hx_tree.specs.Meaning as new
@@ -47,10 +44,10 @@ same_calls : (left : ℕ) (p : Program) (n : ℕ) → new.calls left (lifted p) 
 same_calls zero p n = refl
 same_calls (suc left) p n =
     let same : (active : Bool) (f : Name) (vs : List ℤ) → new.calls (suc left) (lifted p) n active f vs ≡ old.calls (suc left) p n active f vs =
-      λ active f vs.
-      ap (λ g. new.run_function g vs (record { calls = new.calls left (lifted p) n; turns = n; is_active = active })) (named f.text p)
-      ∙ ap (λ calls. new.run_function (option_map lift_func (old.function_named f.text (old.functions_of p))) vs (record { calls = calls; turns = n; is_active = active })) (same_calls left p n)
-      ∙ same_run (old.function_named f.text (old.functions_of p)) vs (record { calls = old.calls left p n; turns = n; is_active = active })
+    λ active f vs.
+    ap (λ g. new.run_function g vs (record { calls = new.calls left (lifted p) n; turns = n; is_active = active })) (named f.text p)
+    ∙ ap (λ calls. new.run_function (option_map lift_func (old.function_named f.text (old.functions_of p))) vs (record { calls = calls; turns = n; is_active = active })) (same_calls left p n)
+    ∙ same_run (old.function_named f.text (old.functions_of p)) vs (record { calls = old.calls left p n; turns = n; is_active = active })
     in λ i active f vs. same active f vs i
 
 -- ---- whole runs
@@ -81,5 +78,5 @@ room_of gs = sum_by (λ g. if bytes_eq g.name.text (codes "in") then array_words
 pub keeps_inputs : (p : Program) → KeepsInputs p (lifted p)
 keeps_inputs p input =
     let same : new.room_for_input (lifted p) ≡ old.room_for_input p =
-      ap room_of (same_globals p.items)
+    ap room_of (same_globals p.items)
     in (subst (λ room. length input ≤ room) (sym same), subst (λ room. length input ≤ room) same)

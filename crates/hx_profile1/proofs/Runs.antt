@@ -1,12 +1,12 @@
 -- A tree of profile 1 does what today's does.
-use Rattle.std.proofs.Common.{◌≡◌, ℕ, Bool, true, false, if◌then◌else◌, List, [], ◌∷◌, Option, Some, None, ℤ, pos, map, refl}
+use Rattle.std.proofs.Common.{◌≡◌, ℕ, Bool, if◌then◌else◌, List, [], ◌∷◌, Option, Some, None, ℤ, pos, map, refl}
 use Rattle.std.specs.Prelude.{not, option_map}
 use Rattle.hx_tree.specs.declared.token.Pos.{Pos}
 use Rattle.hx_tree.specs.declared.tree.BinaryOp.TheVariants.{Strict, And, Or}
 use Rattle.hx_tree.specs.declared.tree.Operator.{Operator}
 use Rattle.hx_tree.specs.declared.tree.Operator.TheVariants.{Add, Sub}
 use Rattle.hx_tree.specs.Numbers.{is_zero}
-use Rattle.hx_tree.specs.World.{World, Answer, Run, ◌>>=◌, and_then, gives, Environment, declare, enter_scope}
+use Rattle.hx_tree.specs.World.{Run, ◌>>=◌, and_then, gives, Environment, declare, enter_scope}
 use Rattle.hx_tree.specs.Value.{Calling}
 use Rattle.hx_tree.specs.Value as new_value
 use Rattle.hx_tree.specs.Effect.{Effect, Context, goes_on, call_in, inside, is_counted, no_place, loop, go_on}

@@ -1,5 +1,5 @@
 -- Tokens that spell a tree of profile 1 spell today's.
-use Rattle.std.proofs.Common.{◌≡◌, ℕ, ◌-◌, ◌≤◌, Bool, true, false, List, [], ◌∷◌, Option, Some, None, map, refl, sym, ap, ◌∙◌, arith}
+use Rattle.std.proofs.Common.{◌≡◌, ℕ, ◌-◌, List, [], ◌∷◌, Option, Some, None, map, refl, ◌∙◌, arith}
 use Rattle.std.specs.Prelude.{option_map}
 use Rattle.hx_tree.specs.Lexis.{Token}
 use Rattle.hx_tree.specs.declared.token.Mark.TheVariants as mark

@@ -1,18 +1,17 @@
 -- Profile 1: which programs are accepted. Its two limits of words are smaller than today's.
-use Rattle.std.specs.Prelude.{◌≡◌, ℕ, ◌+◌, ◌≤◌, Bool, true, false, IsFalse, IsTrue, if◌then◌else◌, List, [], ◌∷◌, length, map, flat_map, sum_by, All, Option, Some, None, codes, bytes_eq}
+use Rattle.std.specs.Prelude.{◌≡◌, ℕ, ◌+◌, ◌≤◌, false, IsTrue, List, [], ◌∷◌, length, map, flat_map, sum_by, All, Option, Some, None, codes}
 use Rattle.hx_tree.specs.declared.limits.TheConstants.{CONSTANT_LIMIT, HEIGHT_LIMIT, FUNCTION_LIMIT, PARAMETER_LIMIT, PRIVATE_LIMIT, OPERAND_LIMIT}
-use Rattle.hx_tree.specs.declared.tree.Constant.{Constant}
 use Rattle.hx_tree.specs.declared.tree.Returns.{Returns}
 use Rattle.hx_tree.specs.declared.tree.Returns.TheVariants as returns
-use Rattle.hx_tree.specs.Tree.{Name, Shape, Scalar, Array, param_names}
+use Rattle.hx_tree.specs.Tree.{Shape, Scalar, Array, param_names}
 use Rattle.hx_profile1.specs.Tree.{Expr, Number, Variable, Element, Call, Paren, Unary, Binary, Exprs, no_exprs, expr_and, LocalDecl, Place, ToVariable, ToElement, Assignment, Set, Update, Increment, Decrement, Init, NoInit, InitLocals, InitAssign, Stmt, Block, Empty, Assign, CallStatement, Print, Emit, If, IfElse, While, For, Break, Continue, Return, Part, Locals, Statement, Parts, no_parts, part_and, Func, Item, Globals, Function, Program}
 use Rattle.hx_tree.specs.World.{Map, look_up}
 use Rattle.hx_tree.specs.Meaning.{texts_of}
 use Rattle.hx_profile1.specs.Meaning.{functions_of}
 use Rattle.hx_profile1.specs.Need.{function_need}
 use Rattle.hx_profile1.specs.Height.{program_height}
-use Rattle.hx_tree.specs.Accepted.{Kind, Surroundings, is_among, is_local, kind_of, IsInt, IsArray, IsNew, with_name, in_scope, inside_loop, IfThere, kind_of_shape, IsDistinct, shape_words, AcceptsConstant}
-use Rattle.hx_tree.specs.Accepted.{IntKind, ArrayKind, FunctionKind}
+use Rattle.hx_tree.specs.Accepted.{Kind, Surroundings, kind_of, IsInt, IsArray, IsNew, with_name, in_scope, inside_loop, IfThere, kind_of_shape, IsDistinct, shape_words, AcceptsConstant}
+use Rattle.hx_tree.specs.Accepted.{FunctionKind}
 use Rattle.hx_profile1.specs.declared.p1.TheConstants.{GLOBAL_LIMIT, ARRAY_LIMIT}
 
 -- ---- names

@@ -1,17 +1,16 @@
 -- Profile 1: the effect of a statement. How a statement ends, where it stands and what a loop is are those of today.
-use Rattle.std.specs.Prelude.{ℕ, zero, suc, ◌%◌, Bool, not, ◌&&◌, ◌||◌, if◌then◌else◌, List, [], ◌∷◌, ◌++◌, ℤ, pos, Option, Some, None}
+use Rattle.std.specs.Prelude.{◌%◌, if◌then◌else◌, List, [], ◌∷◌, ◌++◌, ℤ, pos, Option, Some, None}
 use Rattle.std.specs.Int.{w32, cast_unsigned}
 use Rattle.std.specs.Fmt.{signed_decimal}
 use Rattle.hx_tree.specs.declared.token.Pos.{Pos}
 use Rattle.hx_tree.specs.declared.tree.Operator.{Operator}
 use Rattle.hx_tree.specs.declared.tree.Operator.TheVariants.{Add, Sub}
-use Rattle.hx_tree.specs.Tree.{Name}
 use Rattle.hx_profile1.specs.Tree.{Expr, LocalDecl, Place, ToVariable, ToElement, Assignment, Set, Update, Increment, Decrement, Init, NoInit, InitLocals, InitAssign, Stmt, Block, Empty, Assign, CallStatement, Print, Emit, If, IfElse, While, For, Break, Continue, Return, Part, Locals, Statement, Parts, no_parts, part_and}
 use Rattle.hx_tree.specs.Numbers.{is_zero}
-use Rattle.hx_tree.specs.World.{Environment, Run, ◌>>=◌, gives, unfinished, local_value, set_local, declare, enter_scope, leave_scope, read_element, write_element, print_bytes, count_turn}
+use Rattle.hx_tree.specs.World.{Environment, Run, ◌>>=◌, gives, declare, enter_scope, leave_scope, read_element, write_element, print_bytes}
 use Rattle.hx_tree.specs.Value.{Calling, read_variable, operate}
 use Rattle.hx_profile1.specs.Value.{value, values}
-use Rattle.hx_tree.specs.Effect.{Exit, GoesOn, Breaks, Continues, Returns, Effect, goes_on, Context, call_in, inside, is_counted, write_variable, no_place, end_turn, loop, go_on}
+use Rattle.hx_tree.specs.Effect.{Breaks, Continues, Returns, Effect, goes_on, Context, call_in, inside, is_counted, write_variable, no_place, loop, go_on}
 
 -- ---- assignments and declarations
 

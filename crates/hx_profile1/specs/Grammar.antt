@@ -1,24 +1,12 @@
 -- Profile 1: which tokens spell a tree. `||` is the last layer of an expression, and no statement begins with `do`; phrases, marks and
 -- layers are those of today.
-use Rattle.std.specs.Prelude.{◌≡◌, ℕ, ◌-◌, ◌≤◌, Bool, true, false, if◌then◌else◌, List, [], ◌∷◌, length, Option, Some, None}
+use Rattle.std.specs.Prelude.{◌≡◌, ℕ, ◌-◌, ◌≤◌, Bool, true, false, if◌then◌else◌, List, [], ◌∷◌, length}
 use Rattle.hx_tree.specs.declared.limits.TheConstants.{SOURCE_LIMIT}
-use Rattle.hx_tree.specs.declared.token.Pos.{Pos}
-use Rattle.hx_tree.specs.declared.token.Mark.{Mark}
 use Rattle.hx_tree.specs.declared.token.Mark.TheVariants as mark
-use Rattle.hx_tree.specs.declared.tree.Constant.{Constant}
-use Rattle.hx_tree.specs.declared.tree.Returns.{Returns}
-use Rattle.hx_tree.specs.declared.tree.Returns.TheVariants as returns
-use Rattle.hx_tree.specs.declared.tree.UnaryOp.{UnaryOp}
-use Rattle.hx_tree.specs.declared.tree.UnaryOp.TheVariants as unary
-use Rattle.hx_tree.specs.declared.tree.BinaryOp.{BinaryOp}
-use Rattle.hx_tree.specs.declared.tree.BinaryOp.TheVariants.{Strict, And, Or}
-use Rattle.hx_tree.specs.declared.tree.Operator.{Operator}
-use Rattle.hx_tree.specs.declared.tree.Operator.TheVariants as op
-use Rattle.hx_tree.specs.Tree.{Name, Shape, Scalar, Array, GlobalDecl, Params, NoParams, VoidParams, NamedParams}
 use Rattle.hx_profile1.specs.Tree.{Expr, Number, Variable, Element, Call, Paren, Unary, Binary, Exprs, no_exprs, expr_and, LocalDecl, Place, ToVariable, ToElement, Assignment, Set, Update, Increment, Decrement, Init, NoInit, InitLocals, InitAssign, ForClauses, Stmt, Block, Empty, Assign, CallStatement, Print, Emit, If, IfElse, While, For, Break, Continue, Return, Part, Locals, Statement, Parts, no_parts, part_and, Item, Globals, Function, Program}
-use Rattle.hx_tree.specs.Lexis.{Token, NameToken, NumberToken, MarkToken}
+use Rattle.hx_tree.specs.Lexis.{Token}
 use Rattle.hx_profile1.specs.Lexis.{AreTokens}
-use Rattle.hx_tree.specs.Grammar.{Phrase, ◌⨾◌, ◌given◌, Nothing, Never, Named, Numeral, At, The, Optional, EachBehindComma, Listed, unary_mark, operator_mark, binary_mark, operator_layer, layer, Updating, Sign, IsConstant, AreValues, IsShape, IsGlobal, IsParams, returns_mark}
+use Rattle.hx_tree.specs.Grammar.{Phrase, ◌⨾◌, ◌given◌, Nothing, Named, Numeral, At, The, Optional, Listed, unary_mark, binary_mark, layer, Updating, IsGlobal, IsParams, returns_mark}
 
 -- ---- expressions
 

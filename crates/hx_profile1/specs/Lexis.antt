@@ -1,15 +1,13 @@
 -- Profile 1: how the bytes of a source fall into white space, comments and tokens. `do` is a name here, and `?` and `:` are foreign;
 -- all else is as today.
-use Rattle.std.specs.Prelude.{◌≡◌, ℕ, ◌+◌, ◌-◌, ◌*◌, ◌<◌, ◌≤◌, Bool, ◌&&◌, ◌||◌, not, ◌==◌, nat_eq, nat_le, nat_lt, List, [], ◌∷◌, ◌++◌, length, drop, take_while, find, slice_index, codes, Option, Some, None, option_map, bytes_eq, if◌then◌else◌}
+use Rattle.std.specs.Prelude.{◌≡◌, ℕ, ◌<◌, ◌≤◌, nat_eq, List, [], ◌∷◌, ◌++◌, length, find, codes, Option, Some, None, option_map, bytes_eq}
 use Rattle.std.specs.List.{starts_with}
-use Rattle.hx_tree.specs.declared.limits.TheConstants.{NAME_LIMIT, CONSTANT_LIMIT}
-use Rattle.hx_tree.specs.declared.token.Pos.{Pos}
+use Rattle.hx_tree.specs.declared.limits.TheConstants.{NAME_LIMIT}
 use Rattle.hx_tree.specs.declared.token.Mark.{Mark}
 use Rattle.hx_tree.specs.declared.token.Mark.TheVariants as mark
 use Rattle.hx_tree.specs.declared.token.Kind.{Kind}
 use Rattle.hx_tree.specs.declared.token.Kind.TheVariants as kind
-use Rattle.hx_tree.specs.Tree.{Name}
-use Rattle.hx_tree.specs.Lexis.{is_space, is_letter, is_digit, is_word_byte, is_in_line, digits, constant_of, close_len, Class, Word, Digits, Other, class_at, IsRun, IsBlank, IsNumber, Piece, Token, token_of, first_place, place_behind, place_after, with_token, tokens_of}
+use Rattle.hx_tree.specs.Lexis.{is_word_byte, Class, Word, Other, class_at, IsRun, IsBlank, IsNumber, Piece, Token, first_place, tokens_of}
 
 -- ---- keywords and punctuators
 

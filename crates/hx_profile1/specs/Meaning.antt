@@ -1,20 +1,14 @@
 -- Profile 1: what a program means: its functions, its opening world and its whole run.
-use Rattle.std.specs.Prelude.{◌≡◌, ℕ, zero, suc, ◌-◌, Bool, false, if◌then◌else◌, List, [], ◌∷◌, ◌++◌, length, drop, replicate, map, flat_map, zip, find, codes, bytes_eq, sum_by, ℤ, pos, Option, Some, None, ◌≤◌}
-use Rattle.hx_tree.specs.declared.tree.Constant.{Constant}
-use Rattle.hx_tree.specs.declared.tree.UnaryOp.TheVariants.{Negate}
-use Rattle.hx_tree.specs.declared.outcome.End.{End}
-use Rattle.hx_tree.specs.declared.outcome.End.TheVariants.{Normal, Fault}
-use Rattle.hx_tree.specs.declared.outcome.Outcome.{Outcome}
+use Rattle.std.specs.Prelude.{◌≡◌, ℕ, zero, suc, ◌-◌, Bool, false, if◌then◌else◌, List, [], ◌∷◌, length, map, flat_map, zip, find, codes, bytes_eq, sum_by, ℤ, pos, Option, Some, None, ◌≤◌}
 use Rattle.hx_tree.specs.declared.outcome.FaultKind.TheVariants.{CallTooDeep}
 use Rattle.hx_tree.specs.declared.limits.TheConstants.{CALL_LIMIT}
-use Rattle.hx_tree.specs.Tree.{Name, GlobalDecl, Shape, Scalar, Array, param_names}
+use Rattle.hx_tree.specs.Tree.{GlobalDecl, param_names}
 use Rattle.hx_profile1.specs.Tree.{Program, Item, Globals, Function, Func}
-use Rattle.hx_tree.specs.Numbers.{unary_value}
-use Rattle.hx_tree.specs.World.{World, Answer, Gives, Faults, Unfinished, Run, ◌>>=◌, gives, faults}
+use Rattle.hx_tree.specs.World.{World, Run, ◌>>=◌, gives, faults}
 use Rattle.hx_tree.specs.Value.{Calling}
-use Rattle.hx_tree.specs.Effect.{Exit, GoesOn, Breaks, Continues, Returns, Context}
+use Rattle.hx_tree.specs.Effect.{Context}
 use Rattle.hx_profile1.specs.Effect.{effects}
-use Rattle.hx_tree.specs.Meaning.{texts_of, returned, constant_value, opening_words, filled, counted, words_at_start, array_words, Ending, ending, ending_of_main, shown_by}
+use Rattle.hx_tree.specs.Meaning.{texts_of, returned, words_at_start, array_words, Ending, ending_of_main}
 
 -- ---- functions
 

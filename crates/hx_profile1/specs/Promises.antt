@@ -1,5 +1,5 @@
 -- What a program of today keeps of a program of profile 1.
-use Rattle.std.specs.Prelude.{◌≡◌, ◌≢◌, ◌↔◌, ℕ, List, [], ◌∷◌, ℤ, codes}
+use Rattle.std.specs.Prelude.{◌≢◌, ◌↔◌, ℕ, List, [], ◌∷◌, ℤ, codes}
 use Rattle.hx_tree.specs.Lexis.{Token, NameToken, NumberToken, MarkToken}
 use Rattle.hx_tree.specs.Tree as new
 use Rattle.hx_tree.specs.Accepted as new_accepted

@@ -1,13 +1,9 @@
 -- Profile 1: the value of an expression.
-use Rattle.std.specs.Prelude.{not, if◌then◌else◌, List, [], ◌∷◌, ℤ, pos, Some, None}
-use Rattle.hx_tree.specs.declared.token.Pos.{Pos}
+use Rattle.std.specs.Prelude.{not, if◌then◌else◌, List, [], ◌∷◌, ℤ, pos}
 use Rattle.hx_tree.specs.declared.tree.BinaryOp.TheVariants.{Strict, And, Or}
-use Rattle.hx_tree.specs.declared.tree.Operator.{Operator}
-use Rattle.hx_tree.specs.declared.outcome.FaultKind.TheVariants.{ZeroDivisor}
-use Rattle.hx_tree.specs.Tree.{Name}
 use Rattle.hx_profile1.specs.Tree.{Expr, Number, Variable, Element, Call, Paren, Unary, Binary, Exprs, no_exprs, expr_and}
-use Rattle.hx_tree.specs.Numbers.{truth, is_zero, unary_value, operator_value}
-use Rattle.hx_tree.specs.World.{Environment, Run, ◌>>=◌, gives, or_fault, local_value, read_element}
+use Rattle.hx_tree.specs.Numbers.{truth, is_zero, unary_value}
+use Rattle.hx_tree.specs.World.{Environment, Run, ◌>>=◌, gives, read_element}
 use Rattle.hx_tree.specs.Value.{Calling, read_variable, operate}
 
 abbrev mutual

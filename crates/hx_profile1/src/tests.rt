@@ -1,7 +1,6 @@
 // A program of profile 1 that is made into one of today.
 
-use crate::from_profile1;
-use crate::p1;
+use crate::{from_profile1, p1};
 use hx_tree::token::Pos;
 use hx_tree::tree::{
     Assignment, BinaryOp, Expr, Func, GlobalDecl, Item, Name, Operator, Params, Part, Place,
@@ -87,7 +86,9 @@ fn squares(alloc: Global) -> Result<p1::Program, AllocError> {
 fn is_squared(a: &Assignment) -> bool {
     match a {
         Assignment::Set(Place::Element(a, _), Expr::Binary(op, pos, _, _)) => {
-            a.text.as_slice() == b"a".as_slice() && *op == BinaryOp::Strict(Operator::Mul) && *pos == at(51)
+            a.text.as_slice() == b"a".as_slice()
+                && *op == BinaryOp::Strict(Operator::Mul)
+                && *pos == at(51)
         }
         _ => false,
     }
