@@ -1,0 +1,12 @@
+pub mod Tree
+pub mod View
+pub mod Lexis
+pub mod Grammar
+pub mod Value
+pub mod Effect
+pub mod Meaning
+pub mod Height
+pub mod Need
+pub mod Accepted
+pub mod Lifted
+pub mod Promises
