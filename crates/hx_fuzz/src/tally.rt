@@ -47,11 +47,11 @@ impl Tally {
         }
     }
 
-    /// Whether all of so many programs agree, and they are what they are meant to be: two in three end and run a marked loop, and one in
+    /// Whether all of so many programs agree, and they are what they are meant to be: one in three ends and runs a marked loop, and one in
     /// a hundred ends by a fault.
     pub(crate) fn tries_all(&self, count: u64) -> bool {
         let tried = self.ended.saturating_add(self.not_ended);
-        tried == count && self.with_regions / 2 >= count / 3 && self.faults >= count / 100
+        tried == count && self.with_regions >= count / 3 && self.faults >= count / 100
     }
 }
 
