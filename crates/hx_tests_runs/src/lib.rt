@@ -22,4 +22,6 @@ mod rows;
 #[cfg(test)]
 mod scale;
 #[cfg(test)]
+mod stations;
+#[cfg(test)]
 mod workers;
