@@ -30,10 +30,12 @@ fn expect_all(rt: &impl Abort, alloc: Global, rows: &[(&[u8], u32, u32)]) {
 
 #[test]
 fn refuses_with_places(rt: HostRuntime) {
-    let rows: [(&[u8], u32, u32); 8] = [
+    let rows: [(&[u8], u32, u32); 10] = [
         (b"int f(){ return x; } int main(){}", 20, 17),
         (b"int f(int a,int a){} int main(){}", 21, 17),
         (b"void g(){} int main(){ print(g()); }", 22, 30),
+        (b"void g(){} int main(){ print(1?g():2); }", 22, 32),
+        (b"void g(){} int main(){ print(1?2:g()); }", 22, 34),
         (
             b"int f(int a){ return a; } int main(){ print(f()); }",
             23,

@@ -77,7 +77,7 @@ fn in_blocks(alloc: Global, blocks: usize) -> Result<Vec<u8>, AllocError> {
 
 #[test]
 fn faults_have_their_places(rt: HostRuntime) {
-    let rows: [(&[u8], u32, u32, u32); 74] = [
+    let rows: [(&[u8], u32, u32, u32); 75] = [
         (b"int main(){ print(1) }", 10, 1, 22),
         (b"int main(){ int x = 1 +; }", 10, 1, 24),
         (b"int main(){ print(--1); }", 10, 1, 19),
@@ -91,6 +91,7 @@ fn faults_have_their_places(rt: HostRuntime) {
         (b"int x\n  y;", 10, 2, 3),
         (b"int do1=1, while1, iff; int main(){}", 0, 0, 0),
         (b"int while;", 10, 1, 5),
+        (b"int main(){ int do=1; }", 10, 1, 17),
         (b"int x, f();", 10, 1, 9),
         (b"void x;", 10, 1, 7),
         (b"void x = 1;", 10, 1, 8),
@@ -251,6 +252,17 @@ fn the_height_has_a_limit(rt: HostRuntime) -> Result<(), Fail> {
     // A list is no higher than its highest member.
     let list = nested(alloc, b"int main(){ f(1", b", 1", 1000, b"); }");
     expect(&rt, alloc, list, TAKEN)?;
+    Ok(())
+}
+
+// Each choice stands in the last part of the one before. The last of these sources has 65,536 bytes.
+#[test]
+fn choices_go_to_the_height_limit(rt: HostRuntime) -> Result<(), Fail> {
+    let alloc = rt.alloc();
+    let choices = |count| nested(alloc, b"int main(){ print(", b"1?1:", count, b"1);  }");
+    expect(&rt, alloc, choices(195), TAKEN)?;
+    expect(&rt, alloc, choices(196), TOO_DEEP)?;
+    expect(&rt, alloc, choices(16378), TOO_DEEP)?;
     Ok(())
 }
 

@@ -75,6 +75,20 @@ fn all_hold<R: Abort + Threads + Wait + Sync>(rt: &R, alloc: Global, rows: &[Row
     }
 }
 
+#[test]
+fn sixteen_workers(rt: HostRuntime) {
+    let sum = normal(
+        b"int main(){ int s=0; pfor(int i=1;i<=100;i++) s+=i; print(s); }",
+        b"5050\n",
+        &[],
+        100,
+    );
+    match finish_of(&rt, rt.alloc(), sum, 16, (512, 64)) {
+        Some(finish) => is_of(&rt, sum, &finish),
+        None => assert!(&rt; false),
+    }
+}
+
 // Loops whose turns need nothing, or little, of one another.
 fn loop_rows<'a>() -> [Row<'a>; 5] {
     [
