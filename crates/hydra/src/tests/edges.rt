@@ -4,6 +4,8 @@ use crate::command::command;
 use crate::request::{Request, read_words};
 use crate::tests::{SUM, TWO_TURNS, done_by, expect, shows};
 use hx_run::Mode;
+use hx_tree::outcome::Settings;
+use std::alloc::Global;
 use std::io::Write;
 use std::process::Abort;
 use std::rt::Files;
@@ -117,30 +119,35 @@ fn serves_settings_up_to_their_limits(rt: HostRuntime) -> Result<(), Fail> {
     Ok(())
 }
 
+// How many words a command runs at most.
+fn steps_of(alloc: Global, words: &[&str]) -> Option<u64> {
+    match read_words(alloc, words) {
+        Ok(Some(Request::Execute(_, Mode::Plain { steps, .. }, _))) => Some(steps),
+        Ok(Some(Request::Replay(_, asked))) => Some(asked.steps),
+        _ => None,
+    }
+}
+
+// Which settings a command has.
+fn settings_of(alloc: Global, words: &[&str]) -> Option<Settings> {
+    match read_words(alloc, words) {
+        Ok(Some(Request::Execute(_, _, settings))) => Some(settings),
+        _ => None,
+    }
+}
+
 #[test]
 fn has_its_defaults(rt: HostRuntime) {
-    match read_words(rt.alloc(), &["hydra", "plain", "x"]) {
-        Ok(Some(Request::Execute(paths, Mode::Plain { steps, tail }, _))) => {
-            assert_eq!(&rt; steps, 1_000_000_000);
-            assert!(&rt; !tail.stats && !tail.globals && !paths.explains && paths.input.is_none());
-        }
-        _ => assert!(&rt; false),
-    }
-    match read_words(rt.alloc(), &["hydra", "run", "x"]) {
-        Ok(Some(Request::Execute(_, _, settings))) => {
-            assert_eq!(&rt; settings.workers, 4);
-            assert_eq!(&rt; settings.marks, 512);
-            assert_eq!(&rt; settings.buffer, 64);
-        }
-        _ => assert!(&rt; false),
-    }
-    match read_words(rt.alloc(), &["hydra", "replay", "x", "0"]) {
-        Ok(Some(Request::Replay(_, asked))) => {
-            assert_eq!(&rt; asked.steps, 1_000_000_000);
-            assert_eq!(&rt; asked.nth, 1);
-        }
-        _ => assert!(&rt; false),
-    }
+    let plain = steps_of(rt.alloc(), &["hydra", "plain", "x"]);
+    assert_eq!(&rt; plain, Some(1_000_000_000));
+    let replay = steps_of(rt.alloc(), &["hydra", "replay", "x", "0"]);
+    assert_eq!(&rt; replay, Some(1_000_000_000));
+    let wanted = Settings {
+        workers: 4,
+        marks: 512,
+        buffer: 64,
+    };
+    assert!(&rt; settings_of(rt.alloc(), &["hydra", "run", "x"]) == Some(wanted));
 }
 
 // An output that takes so many bytes at once, and may fail as it is flushed.
@@ -186,36 +193,41 @@ fn slowly<R: Abort + Files + AllocGlobal + Threads + Wait + Sync>(
     (out.taken, err, status)
 }
 
+// That a command writes this to an output that takes one byte at a time, and tells of one that fails as it is flushed.
+fn writes_in_the_end<R: Abort + Files + AllocGlobal + Threads + Wait + Sync>(
+    rt: &R,
+    words: &[&str],
+    wanted: &[u8],
+) {
+    let (out, err, status) = slowly(rt, words, 1, true);
+    assert_eq!(rt; out.as_slice(), wanted);
+    assert!(rt; err.is_empty() && status == 0);
+    let (_, err, status) = slowly(rt, words, 100, false);
+    assert_eq!(rt; err.as_slice(), b"hydra: write failed\n".as_slice());
+    assert_eq!(rt; status, 4);
+}
+
 #[test]
 fn writes_whatever_an_output_takes_at_once(rt: HostRuntime) -> Result<(), Fail> {
     let p = "hydra-test-slow.hc";
     fs::write(&rt, p, b"int main(){ print(12345); }")?;
-    let commands: [(&[&str], &[u8]); 5] = [
-        (&["hydra", "run", p], b"12345\n"),
-        (&["hydra", "plain", p], b"12345\n"),
-        (&["hydra", "check", p], b"ok\n"),
-        (
-            &["hydra", "words", p],
-            b"globals 0\nfunc main 0 0 0\n0 const 12345\n1 print 1 13\n2 const 0\n3 ret\n",
-        ),
-        (
-            &["hydra", "explain", "24"],
-            b"'break' or 'continue' stands outside a loop.\nwrong: int main(){ break; }\nright: int main(){ while(1) break; }\n",
-        ),
-    ];
-    for (words, wanted) in commands {
-        let (out, err, status) = slowly(&rt, words, 1, true);
-        assert_eq!(&rt; out.as_slice(), wanted);
-        assert!(&rt; err.is_empty() && status == 0);
-        let (_, err, status) = slowly(&rt, words, 100, false);
-        assert_eq!(&rt; err.as_slice(), b"hydra: write failed\n".as_slice());
-        assert_eq!(&rt; status, 4);
-    }
+    writes_in_the_end(&rt, &["hydra", "run", p], b"12345\n");
+    writes_in_the_end(&rt, &["hydra", "plain", p], b"12345\n");
+    writes_in_the_end(&rt, &["hydra", "check", p], b"ok\n");
+    let words = b"globals 0\nfunc main 0 0 0\n0 const 12345\n1 print 1 13\n2 const 0\n3 ret\n";
+    writes_in_the_end(&rt, &["hydra", "words", p], words);
+    let explained =
+        b"'break' or 'continue' stands outside a loop.\nwrong: int main(){ break; }\nright: int main(){ while(1) break; }\n";
+    writes_in_the_end(&rt, &["hydra", "explain", "24"], explained);
+    fs::remove_file(&rt, p)?;
+    Ok(())
+}
+
+#[test]
+fn writes_help_to_an_output_that_takes_one_byte(rt: HostRuntime) {
     let whole = done_by(&rt, &["hydra", "--help"]);
     let (out, _, status) = slowly(&rt, &["hydra", "--help"], 1, true);
     assert!(&rt; out.as_slice() == whole.out.as_slice() && status == 0);
-    fs::remove_file(&rt, p)?;
-    Ok(())
 }
 
 #[test]
