@@ -281,7 +281,8 @@ impl Maker {
         } else {
             Depth::InTwo
         };
-        for _ in 0..1 + self.roll(4) {
+        let count = self.roll(4).saturating_add(1);
+        for _ in 0..count {
             self.statement()?;
         }
         self.depth = around;
@@ -297,7 +298,8 @@ impl Maker {
         }
         self.counted(b"i")?;
         self.depth = Depth::InOne;
-        for _ in 0..1 + self.roll(3) {
+        let count = self.roll(3).saturating_add(1);
+        for _ in 0..count {
             if self.roll(3) == 0 {
                 self.inner()?;
             } else {
@@ -317,7 +319,8 @@ impl Maker {
         self.expression()?;
         self.put(b";}int main(){int p=n_in;int q=in[0];")?;
         self.is_main = true;
-        for _ in 0..2 + self.roll(3) {
+        let count = self.roll(3).saturating_add(2);
+        for _ in 0..count {
             self.outer()?;
         }
         self.put(b"print(p);print(g);return ")?;

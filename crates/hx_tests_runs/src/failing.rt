@@ -1,5 +1,7 @@
 // Devices that fail at each of their calls in turn, and devices that take a byte at a time, in each mode.
 
+ghost use Rattle.std.specs.Prelude.{◌<◌, ◌-◌, ◌^◌};
+
 use hx_device::{MemorySink, MemorySource};
 use hx_run::{Done, Mode, Refusal, Tail, Unwatched, execute};
 use hx_tree::outcome::{End, Fault, FaultKind, Settings};
@@ -61,7 +63,9 @@ fn executed<R: Abort + Threads + Wait + Sync>(
     mode: Mode,
     out: &mut MemorySink,
     read: u64,
-) -> Result<Done, Refusal> {
+) -> Result<Done, Refusal>
+    requires { out.old.failures < 2 ^ 64 - 1 }
+{
     let mut source = MemorySource::failing_in(source, read);
     let settings = Settings {
         workers: 1,
