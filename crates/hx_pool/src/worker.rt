@@ -47,6 +47,7 @@ pub fn work<S: Shared, G: Gate, W: Wait>(
 )
     requires worker { worker < S.setup.slots }
     requires own { IsOwnFrame S.setup frame.old }
+    ensures { StaysOwn frame.old frame.new }
 {
     let hand = Hand {
         rt,

@@ -19,6 +19,7 @@ mod refusals;
 mod regions;
 mod rows;
 mod scale;
+mod stations;
 mod tables;
 mod trees;
 mod workers;

@@ -2,7 +2,7 @@ use Rattle.std.proofs.Common.{◌∙◌, ap}
 use Rattle.hx_code.specs.Region.{region_after}
 use Rattle.hx_word.specs.Running.{RunView}
 use Rattle.hx_pool.proofs.Later.{later}
-use Rattle.hx_pool.proofs.region.run_to_end.Goals as goal
+use Rattle.hx_pool.proofs.kept.run_to_end.Goals as goal
 
 pub returns-then-run-clause-words : goal.returns-then-run-clause-words
 returns-then-run-clause-words g c =

@@ -1,6 +1,6 @@
 use Rattle.std.proofs.Common.{◌≡◌, ℕ}
 use Rattle.hx_code.specs.Region.{region_after}
-use Rattle.hx_pool.proofs.region.run_to_end.Given as goal
+use Rattle.hx_pool.proofs.kept.run_to_end.Given as goal
 
 abbrev pub invariant-loop : goal.invariant-loop
 invariant-loop g l =
