@@ -1,10 +1,10 @@
 #!/usr/bin/env bash
-# Makes test sources of hx_run from the programs of this folder and of examples/, since a test can read no file.
+# Makes test sources of hx_tests_runs from the programs of this folder and of examples/, since a test can read no file.
 #
 #   forms/write_tests.sh           writes them
 #   forms/write_tests.sh --check   tells which of the committed ones are not up to date
 #
-# Each folder of programs, forms/TOPIC and examples, gives one file, crates/hx_run/src/tests/forms/TOPIC.rt. A program is
+# Each folder of programs, forms/TOPIC and examples, gives one file, crates/hx_tests_runs/src/forms/TOPIC.rt. A program is
 #   NAME.hc    its source. A line `// Whole turns: N.` says how many whole turns it has; without one they aren't compared
 #   NAME.in    its input text, where it reads one
 #   NAME.out   what it prints
@@ -13,7 +13,7 @@
 set -euo pipefail
 cd "$(dirname "$0")/.."
 
-tests=crates/hx_run/src/tests/forms
+tests=crates/hx_tests_runs/src/forms
 most_lines=800
 
 # the bytes of a file as the inside of a byte string

@@ -5,6 +5,7 @@
     fuzz/fuzz.py --count 100000           as many as one likes
     fuzz/fuzz.py --seconds 3600           until an hour is over
     fuzz/fuzz.py --seed 17 --count 1      one seed again
+    fuzz/fuzz.py --jobs 4                 on so many processes; as many as there are processors, by itself
 
 Each seed gives one source, always the same: two in three are random programs that are accepted, the others programs of this
 repository that were mutated. Each source goes through `check`, `plain`, `run` with random workers and room, and `replay` with random
@@ -18,6 +19,7 @@ something failed.
 
 import argparse
 import glob
+import multiprocessing
 import os
 import random
 import shutil
@@ -86,14 +88,18 @@ class Tally:
     def __init__(self):
         self.programs = self.ended = self.faults = self.more = self.regions = self.in_c = 0
         self.mutated = self.refused = self.accepted = 0
-        self.failed = 0
+        self.failed = self.calls = 0
 
-    def line(self, seconds, calls):
+    def add(self, other):
+        for name, count in vars(other).items():
+            setattr(self, name, getattr(self, name) + count)
+
+    def line(self, seconds):
         return (
             "%d random programs (%d ended, %d of them by a fault; %d not over; %d with a region; %d compared with C), "
             "%d mutated sources (%d refused, %d accepted), %d calls of hydra, %d seconds: %d disagreements" % (
                 self.programs, self.ended, self.faults, self.more, self.regions, self.in_c,
-                self.mutated, self.refused, self.accepted, calls, seconds, self.failed))
+                self.mutated, self.refused, self.accepted, self.calls, seconds, self.failed))
 
 
 class Fuzz:
@@ -215,24 +221,65 @@ class Fuzz:
         else:
             self.tally.accepted += 1
 
-    def go(self):
-        begun, told = time.time(), time.time()
-        seed, last = self.words.seed, self.words.seed + self.words.count
-        while seed < last:
-            if self.words.seconds and time.time() - begun > self.words.seconds:
+    def batch(self, seeds):
+        """So many seeds: what was tried of them."""
+        self.tally, self.hydra.calls = Tally(), 0
+        self.programs([each for each in seeds if each % 3 != 2])
+        for each in seeds:
+            if each % 3 == 2:
+                self.mutation(each)
+        self.tally.calls = self.hydra.calls
+        return self.tally
+
+
+def work(words, first, until, tallies):
+    """One of the processes: every so many batches from the first on. It ends with None, or with what has stopped it."""
+    fuzz = Fuzz(words)
+    ending = None
+    try:
+        last = words.seed + words.count
+        for seed in range(first, last, BATCH * words.jobs):
+            if until is not None and time.time() > until:
                 break
-            seeds = range(seed, min(last, seed + BATCH))
-            self.programs([each for each in seeds if each % 3 != 2])
-            for each in seeds:
-                if each % 3 == 2:
-                    self.mutation(each)
-            seed += BATCH
-            if time.time() - told > 60:
-                told = time.time()
-                print(self.tally.line(told - begun, self.hydra.calls), flush=True)
-        print(self.tally.line(time.time() - begun, self.hydra.calls))
-        shutil.rmtree(self.folder)
-        return 1 if self.tally.failed else 0
+            tallies.put(fuzz.batch(range(seed, min(last, seed + BATCH))))
+    except SystemExit as stop:
+        ending = str(stop)
+    except KeyboardInterrupt:
+        ending = "interrupted"
+    except Exception as error:  # a fault of these scripts, told by the process that started them
+        ending = "%s: %s" % (type(error).__name__, error)
+    finally:
+        shutil.rmtree(fuzz.folder)
+        tallies.put((ending,))
+
+
+def go(words):
+    """All processes, and the figures of all of them together."""
+    begun = told = time.time()
+    until = begun + words.seconds if words.seconds else None
+    tallies = multiprocessing.Queue()
+    workers = []
+    for number in range(words.jobs):
+        worker = multiprocessing.Process(target=work, args=(words, words.seed + BATCH * number, until, tallies))
+        worker.start()
+        workers.append(worker)
+    whole, stopped, running = Tally(), [], len(workers)
+    while running:
+        found = tallies.get()
+        if isinstance(found, Tally):
+            whole.add(found)
+        else:
+            running -= 1
+            stopped += [each for each in found if each is not None]
+        if time.time() - told > 60:
+            told = time.time()
+            print(whole.line(told - begun), flush=True)
+    for worker in workers:
+        worker.join()
+    print(whole.line(time.time() - begun))
+    for each in stopped:
+        print("fuzz: stopped: " + each)
+    return 1 if whole.failed or stopped else 0
 
 
 def main():
@@ -241,6 +288,7 @@ def main():
     parser.add_argument("--seed", type=int, default=1, help="the first seed")
     parser.add_argument("--count", type=int, default=None, help="how many seeds")
     parser.add_argument("--seconds", type=int, default=0, help="stop after so long")
+    parser.add_argument("--jobs", type=int, default=os.cpu_count() or 1, help="how many processes")
     parser.add_argument("--cc", default="gcc", help="the C compiler; an empty word for none")
     parser.add_argument("--found", default=os.path.join(HERE, "found"), help="where failing sources are written")
     parser.add_argument("--as-it-is", action="store_true", help="don't make failing sources small")
@@ -249,7 +297,8 @@ def main():
         words.count = 1 << 40 if words.seconds else 1000
     if not os.access(words.hydra, os.X_OK):
         raise SystemExit("fuzz: %s is no program: 'cd crates/hydra && rt run -- --help' builds it" % words.hydra)
-    sys.exit(Fuzz(words).go())
+    words.jobs = max(1, words.jobs)
+    sys.exit(go(words))
 
 
 if __name__ == "__main__":

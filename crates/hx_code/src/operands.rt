@@ -31,3 +31,13 @@ pub(crate) fn same_operands(a: &[i32; 256], b: &[i32; 256], height: usize) -> bo
 {
     same_values(&a[..height], &b[..height])
 }
+
+/// Puts so many operands in place of others. With none, as where an iteration begins, there is nothing to do.
+pub(crate) fn copy_operands(from: &[i32; 256], height: usize, to: &mut [i32; 256])
+    requires { height ≤ 256 }
+    ensures { tops to.new height ≡ tops from.now height }
+{
+    if height > 0 {
+        *to = *from;
+    }
+}

@@ -31,7 +31,7 @@ pub record IsCodeOf (source : List ℕ) (code : CodeView) : Type 0 where
   pub is_source : IsSourceOf source program
   pub behaves : Behaves program code
 
--- one to eight workers, and tables of 1 to 4,096 words
+-- one to sixteen workers, and tables of 1 to 4,096 words
 pub record AreInRange (s : Settings) : Type 0 where
   pub some_workers : 1 ≤ s.workers
   pub few_workers : s.workers ≤ WORKER_LIMIT

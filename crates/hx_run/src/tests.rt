@@ -1,25 +1,3 @@
-// Tests of whole runs.
+// Runs whose threads can't start. Tests of whole runs stand in hx_tests_runs, tests of stages in hx_tests.
 
-mod boards;
-mod checking;
-mod codes;
-mod executing;
-mod fakes;
-mod forms;
-mod frames;
-mod inputs;
-mod lexing;
-mod listings;
-mod nodes;
-mod overlap;
-mod parsing;
-mod paths;
-mod refined;
-mod refusals;
-mod regions;
-mod rows;
-mod scale;
-mod stations;
-mod tables;
-mod trees;
-mod workers;
+mod alone;

@@ -1,0 +1,144 @@
+// A frame by its own calls: one iteration of a marked loop, as a worker runs it by itself.
+
+ghost use Rattle.std.specs.Prelude.{IfOk};
+ghost use Rattle.hx_code.specs.Fits.{FitsLocal};
+
+use hx_code::code::Code;
+use hx_code::local::Local;
+use hx_frame::action::{Action, Stop};
+use hx_frame::frame::{Capacities, Frame, Tag};
+use hx_run::compile;
+use std::alloc::Global;
+use std::process::Abort;
+use std::test::Fail;
+
+fn code_of(alloc: Global, source: &[u8]) -> Result<Code, Fail> {
+    match compile(alloc, source) {
+        Ok(code) => Ok(code),
+        Err(_) => Err(Fail::from("refused")),
+    }
+}
+
+// Where each iteration of the only region begins.
+fn start_of(alloc: Global, code: &Code) -> Result<Local, Fail>
+    ensures { IfOk result (λ l. FitsLocal code.now l) }
+{
+    if code.regions().len() != 1 {
+        return Err(Fail::from("one region is wanted"));
+    }
+    let mut start = Local::new(alloc, code)?;
+    start.begin(code, 0, 0, &[0; 64], 0);
+    Ok(start)
+}
+
+fn stops(rt: &impl Abort, frame: &mut Frame<'_>, limit: u64, wanted: Stop) {
+    assert_eq!(rt; frame.run(limit), wanted);
+}
+
+// What it marked of a word as read, and what it wrote there.
+fn has(rt: &impl Abort, frame: &Frame<'_>, word: u32, marked: Option<i32>, written: Option<i32>) {
+    assert_eq!(rt; frame.marks().get(word), marked);
+    assert_eq!(rt; frame.writes().get(word), written);
+}
+
+fn is_tagged(rt: &impl Abort, frame: &Frame<'_>, tag: Tag, room: Capacities) {
+    assert_eq!(rt; frame.tagged(), tag);
+    assert_eq!(rt; frame.capacities(), room);
+}
+
+fn shows(rt: &impl Abort, frame: &Frame<'_>, action: Action, regions: usize, calls: usize) {
+    assert_eq!(rt; frame.action(), action);
+    assert_eq!(rt; frame.code().regions().len(), regions);
+    assert_eq!(rt; frame.start().calls(), calls);
+}
+
+// A turn that adds one to the only word.
+fn adds_one(rt: &impl Abort, frame: &mut Frame<'_>) {
+    stops(rt, frame, 1024, Stop::NeedLoad(0));
+    frame.loaded(0);
+    stops(rt, frame, 1, Stop::Limit);
+    stops(rt, frame, 1024, Stop::NeedStore(0, 1));
+    frame.stored();
+    stops(rt, frame, 1024, Stop::NeedHead(Action::TurnEnd));
+}
+
+#[test]
+fn a_turn_asks_for_one_load_and_one_store(rt: HostRuntime) -> Result<(), Fail> {
+    let code = code_of(rt.alloc(), b"int c; int main(){ pwhile(c<2){ c=c+1; } }")?;
+    let start = start_of(rt.alloc(), &code)?;
+    let room = Capacities {
+        marks: 1,
+        buffer: 1,
+    };
+    let tag = Tag {
+        worker: 1,
+        iteration: 5,
+        attempt: 2,
+    };
+    let mut frame = Frame::new(rt.alloc(), &code, room)?;
+    frame.restart(&start);
+    frame.tag(1, 5, 2);
+    adds_one(&rt, &mut frame);
+    has(&rt, &frame, 0, Some(0), Some(1));
+    shows(&rt, &frame, Action::TurnEnd, 1, 1);
+    is_tagged(&rt, &frame, tag, room);
+    Ok(())
+}
+
+// A turn that waits at each thing that it asks for, and goes on behind it.
+fn waits(rt: &impl Abort, frame: &mut Frame<'_>) {
+    stops(rt, frame, 1024, Stop::NeedLoad(0));
+    frame.hold();
+    stops(rt, frame, 1024, Stop::NeedHead(Action::None));
+    frame.advance();
+    stops(rt, frame, 1024, Stop::NeedLoad(0));
+    frame.loaded(0);
+    stops(rt, frame, 1024, Stop::NeedHead(Action::Print(0)));
+    frame.advance();
+    has(rt, frame, 0, None, None);
+    stops(rt, frame, 1024, Stop::NeedHead(Action::Emit(65)));
+    frame.advance();
+    stops(rt, frame, 1024, Stop::NeedStore(0, 5));
+    frame.hold();
+    stops(rt, frame, 1024, Stop::NeedHead(Action::None));
+}
+
+#[test]
+fn what_waits_goes_on_behind(rt: HostRuntime) -> Result<(), Fail> {
+    let code = code_of(
+        rt.alloc(),
+        b"int c; int main(){ pwhile(c<1){ print(c); emit(65); c=5; } }",
+    )?;
+    let room = Capacities {
+        marks: 1,
+        buffer: 1,
+    };
+    let mut frame = Frame::new(rt.alloc(), &code, room)?;
+    frame.restart(&start_of(rt.alloc(), &code)?);
+    waits(&rt, &mut frame);
+    shows(&rt, &frame, Action::None, 1, 1);
+    Ok(())
+}
+
+fn are_one_code(rt: &impl Abort, one: &Code, other: &Code, wanted: bool) {
+    assert_eq!(rt; one.is_same(other), wanted);
+}
+
+fn are_one_state(rt: &impl Abort, one: &Local, other: &Local, wanted: bool) {
+    assert_eq!(rt; one.is_same(other), wanted);
+}
+
+#[test]
+fn codes_and_states_are_compared_by_their_parts(rt: HostRuntime) -> Result<(), Fail> {
+    let code = code_of(rt.alloc(), b"int c; int main(){ pwhile(c<2){ c=c+1; } }")?;
+    let again = code_of(rt.alloc(), b"int c; int main(){ pwhile(c<2){ c=c+1; } }")?;
+    let other = code_of(rt.alloc(), b"int c; int main(){ pwhile(c<3){ c=c+1; } }")?;
+    are_one_code(&rt, &code, &again, true);
+    are_one_code(&rt, &code, &other, false);
+    let start = start_of(rt.alloc(), &code)?;
+    let same = start_of(rt.alloc(), &again)?;
+    let main = Local::new(rt.alloc(), &code)?;
+    are_one_state(&rt, &start, &same, true);
+    are_one_state(&rt, &start, &main, false);
+    Ok(())
+}

@@ -1,0 +1,116 @@
+// Workers that overlap: a gate holds iteration 0 back until iteration 1 has loaded a word.
+
+use hx_run::{Call, Gate, Point, run};
+use hx_tree::outcome::Settings;
+use std::alloc::Global;
+use std::process::Abort;
+use std::sync::Wait;
+use std::sync::atomic::{AtomicU64, Ordering};
+use std::thread;
+use std::thread::Threads;
+
+/// How often the gate looks whether iteration 1 has loaded a word.
+const LOOKS: u64 = 1_000_000;
+
+/// Holds iteration 0 at the first of these points until iteration 1 has loaded a word.
+#[derive(Drop)]
+struct Holding {
+    point: Point,
+    has_loaded: AtomicU64,
+    was_held: AtomicU64,
+    missed: AtomicU64,
+}
+
+impl Holding {
+    fn at_first(point: Point) -> Holding {
+        Holding {
+            point,
+            has_loaded: AtomicU64::new(0),
+            was_held: AtomicU64::new(0),
+            missed: AtomicU64::new(0),
+        }
+    }
+
+    // Looks until iteration 1 has loaded a word, or no more.
+    fn wait(&self) {
+        for _ in 0..LOOKS {
+            if self.has_loaded.load(Ordering::SeqCst) == 1 {
+                return;
+            }
+            thread::yield_now();
+        }
+        self.missed.store(1, Ordering::SeqCst);
+    }
+}
+
+impl Gate for Holding {
+    fn at(&self, _worker: u32, iteration: Option<u64>, point: Point) {
+        if iteration == Some(1) && point == Point::AfterCall(Call::Load) {
+            self.has_loaded.store(1, Ordering::SeqCst);
+        }
+        if iteration == Some(0) && point == self.point {
+            if self.was_held.swap(1, Ordering::SeqCst) == 0 {
+                self.wait();
+            }
+        }
+    }
+}
+
+// A program whose iteration 1 has read what iteration 0 stores, and so begins again.
+#[derive(Clone, Copy)]
+struct Dependent<'a> {
+    source: &'a [u8],
+    text: &'a [u8],
+    turns: u64,
+}
+
+// Held there, iteration 0 stores what iteration 1 has read.
+fn overlaps<R: Abort + Threads + Wait + Sync>(
+    rt: &R,
+    alloc: Global,
+    program: Dependent<'_>,
+    workers: u32,
+    point: Point,
+) {
+    let gate = Holding::at_first(point);
+    let settings = Settings {
+        workers,
+        marks: 512,
+        buffer: 64,
+    };
+    match run(alloc, rt, program.source, &[], settings, &gate) {
+        Ok(finish) => {
+            assert_eq!(rt; finish.outcome.text.as_slice(), program.text);
+            assert_eq!(rt; finish.counts.turns, program.turns);
+            assert!(rt; finish.counts.violations >= 1);
+        }
+        Err(_) => assert!(rt; false),
+    }
+    assert_eq!(rt; gate.has_loaded.load(Ordering::SeqCst), 1);
+    assert_eq!(rt; gate.missed.load(Ordering::SeqCst), 0);
+}
+
+// Each turn adds to the sum of the one before.
+#[test]
+fn gate_overlap(rt: HostRuntime) {
+    let sum = Dependent {
+        source: b"int main(){ int s=0; pfor(int i=1;i<=100;i++) s+=i; print(s); }",
+        text: b"5050\n",
+        turns: 100,
+    };
+    overlaps(&rt, rt.alloc(), sum, 2, Point::InStretch);
+    overlaps(&rt, rt.alloc(), sum, 2, Point::BeforeCall(Call::Load));
+}
+
+// Iteration 1 waits in its turn for a word that iteration 0 stores: what it has read is taken back.
+#[test]
+fn a_turn_waits_for_another(rt: HostRuntime) {
+    let waiting = Dependent {
+        source: b"int go; int main(){ pfor(int i=0;i<2;i++){ if(i==0) go=1; else while(go==0){} } print(go); }",
+        text: b"1\n",
+        turns: 2,
+    };
+    for workers in [2, 4, 8] {
+        overlaps(&rt, rt.alloc(), waiting, workers, Point::InStretch);
+    }
+}
