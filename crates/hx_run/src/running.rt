@@ -17,7 +17,7 @@ use hx_tree::limits::{TABLE_LIMIT, WORKER_LIMIT};
 use hx_tree::outcome::{Finish, Settings};
 use hx_word::plain::{Paused, Plain, Ran};
 use std::alloc::Global;
-use std::marker::{Brand, PhantomData};
+use std::marker::{Brand, Model, PhantomData};
 use std::sync::Wait;
 use std::thread;
 use std::thread::Threads;
@@ -44,7 +44,17 @@ struct RanSo<R: Run, I: Given> {
     finish: Finish,
     run: PhantomData<R>,
     given: PhantomData<I>,
-    ghost ended: { EndsSo R.setup.code I.input finish },
+}
+
+impl<R: Run, I: Given> Model for RanSo<R, I> {
+    ghost use Rattle.hx_tree.specs.declared.outcome.Finish.{Finish};
+    ghost use Rattle.hx_run.specs.Runs.{EndsSo};
+
+    ghost Value = { Finish };
+
+    ghost view = { λ r. r.finish };
+
+    ghost invariant = { λ r. EndsSo R.setup.code I.input r.finish };
 }
 
 impl<R: Run, I: Given> RanSo<R, I> {
