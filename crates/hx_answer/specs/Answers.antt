@@ -11,7 +11,7 @@ use Rattle.hx_run.specs.declared.executing.Done.{Done}
 use Rattle.hx_run.specs.declared.refusal.Refusal.{Refusal}
 use Rattle.hx_run.specs.declared.refusal.Refusal.TheVariants as refusal
 use Rattle.hx_run.specs.Refusals.{RefusesSource}
-use Rattle.hx_run.specs.Headline.{AreInRange, IsCodeOf}
+use Rattle.hx_run.specs.Headline.{AreInRange, IsCodeOf, RefusesRun}
 use Rattle.hx_run.specs.Executions.{IsDone, OfRead, Refuses, RefusesSettings}
 use Rattle.hx_answer.specs.declared.replaying.Replayed.{Replayed}
 use Rattle.hx_answer.specs.declared.replaying.Schedule.{Schedule}
@@ -91,3 +91,13 @@ ReplayAnswer input asked source rest old new status.Refused = RefusesAsked input
 ReplayAnswer input asked source rest old new status.Memory = new ≡ old
 ReplayAnswer input asked source rest old new status.Device = Unit {0}
 ReplayAnswer input asked source rest old new status.Fault = ⊥
+
+-- ---- advice
+
+-- the command `advise`: some advice is shown of a source that has code, or the source or its input are refused
+abbrev pub AdviceAnswer : List ℤ → Option (List ℕ) → Option (List ℕ) → Option (List ℕ) → Option (List ℕ) → Status → Type 0
+AdviceAnswer input source rest old new status.Done = OfRead source rest (λ bytes. (code : CodeView) × IsCodeOf bytes code × (text : List ℕ) × Appends old new text)
+AdviceAnswer input source rest old new status.Refused = OfRead source rest (λ bytes. IsRefused status_of_refusal (RefusesRun bytes input)) × (new ≡ old)
+AdviceAnswer input source rest old new status.Memory = new ≡ old
+AdviceAnswer input source rest old new status.Device = Unit {0}
+AdviceAnswer input source rest old new status.Fault = ⊥
