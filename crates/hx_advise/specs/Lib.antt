@@ -1,3 +1,4 @@
 pub mod Events
 pub mod Watch
 pub mod Regions
+pub mod Course

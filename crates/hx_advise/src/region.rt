@@ -1,10 +1,11 @@
 // A region by itself, from an entry, watched.
 
-ghost use Rattle.std.specs.Prelude.{◌≡◌, ◌≢◌, ◌+◌, ◌<◌, ◌≤◌, ◌↔◌, ℕ, IfOk, IsTrue, true, false, length, vec_len, vec_capacity};
-ghost use Rattle.hx_code.specs.Code.{store_words};
-ghost use Rattle.hx_word.specs.Entry.{EntryFits, opened_from};
+ghost use Rattle.std.specs.Prelude.{◌≡◌, ◌+◌, ◌<◌, ◌≤◌, ◌^◌, [], IfOk, length};
+ghost use Rattle.hx_code.specs.Region.{opening};
+ghost use Rattle.hx_word.specs.Entry.{EntryFits};
 ghost use Rattle.hx_word.specs.Opening.{opened_of};
 ghost use Rattle.hx_word.specs.Running.{IsOpened};
+ghost use Rattle.hx_advise.specs.Course.{Keeps, Followed};
 ghost use Rattle.hx_advise.specs.Regions.{IsWatched, IsVerdict};
 
 use crate::watch::Watch;
@@ -18,7 +19,7 @@ use hx_word::text::print;
 use std::alloc::{AllocError, Global};
 
 // The most words that are watched, so that the number of each turn is one of 64 bits.
-const WORD_LIMIT: u64 = 18_446_744_073_709_551_610;
+const WORD_LIMIT: u64 = 0xffff_ffff_ffff_fff0;
 
 /// What was watched of a region: how many words it did, whether it ended within them, and what its turns read and wrote.
 #[derive(Drop)]
@@ -28,7 +29,7 @@ pub struct Watched {
     pub watch: Watch,
 }
 
-// A region as it is watched: where its iteration stands, over which store and behind which text.
+/// A region as it is watched: where its iteration stands, over which store and behind which text.
 #[derive(Drop)]
 pub struct Course {
     pub local: Local,
@@ -38,6 +39,9 @@ pub struct Course {
 }
 
 /// Runs a region from its entry on one thread, for at most so many words, and watches what its turns read and write.
+///
+/// What it tells are the events of as many words of the plain region, and whether that is over behind them. Where it is, the verdict is
+/// the definition's: the turns are independent exactly where none reads, before it writes it, a word that an earlier one wrote.
 pub fn watch_region(
     alloc: Global,
     code: &Code,
@@ -58,7 +62,7 @@ pub fn watch_region(
         text: Vec::with_capacity(alloc, TEXT_LIMIT)?,
         watch: Watch::new(alloc, entry.store.len())?,
     };
-    begin(code, &opened, &mut course);
+    begin(code, &opened, &mut course, 0);
     let (words, has_ended) = follow(code, &opened, &mut course, steps.min(WORD_LIMIT));
     Ok(Watched {
         words,
@@ -67,16 +71,25 @@ pub fn watch_region(
     })
 }
 
-// The turn that is on begins.
-fn begin(code: &Code, opened: &Opened, course: &mut Course) {
-    let turn = course.watch.turns();
+// Iteration j begins.
+fn begin(code: &Code, opened: &Opened, course: &mut Course, j: u64)
+    requires { IsOpened code.now (opened_of opened.now) }
+    ensures { course.new ≡ record course.old { local = opening code.now (opened_of opened.now) j } }
+{
     course
         .local
-        .begin(code, opened.region, opened.below, &opened.words, turn);
+        .begin(code, opened.region, opened.below, &opened.words, j);
 }
 
-// Does words of a region, up to so many or to its end: how many, and whether it has ended.
-fn follow(code: &Code, opened: &Opened, course: &mut Course, steps: u64) -> (u64, bool) {
+// Does words of a region from its beginning, up to so many or to its end: how many, and whether it has ended.
+fn follow(code: &Code, opened: &Opened, course: &mut Course, steps: u64) -> (u64, bool)
+    requires opened { IsOpened code.now (opened_of opened.now) }
+    requires keeps { Keeps code.now (opened_of opened.now) course.old.store.items 0 course.old }
+    requires few { steps ≤ WORD_LIMIT }
+    ensures followed { Followed code.now (opened_of opened.now) course.old.store.items result.0 result.1 course.new }
+    ensures words { result.0 ≤ steps }
+{
+    code.known();
     let mut words = 0;
     while words < steps {
         let done = course.local.stretch(code, steps - words);
@@ -105,7 +118,8 @@ fn follow(code: &Code, opened: &Opened, course: &mut Course, steps: u64) -> (u64
             Ask::Turns => {
                 words += 1;
                 course.watch.end_turn();
-                begin(code, opened, course);
+                let j = course.watch.turns();
+                begin(code, opened, course, j);
             }
             Ask::Leaves => return (words + 1, true),
             Ask::Returns(_) => return (words + 1, true),

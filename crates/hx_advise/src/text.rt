@@ -141,9 +141,10 @@ fn put_range(
     if last > from {
         text.extend_from_slice(b" to ")?;
         put_word(text, names, last)?;
-        text.extend_from_slice(b", each")?;
+        text.extend_from_slice(b": each in ")?;
+    } else {
+        text.extend_from_slice(b": in ")?;
     }
-    text.extend_from_slice(b" in ")?;
     let (least, greatest) = bounds_of(needs);
     if least < greatest {
         put_number(text, least)?;

@@ -41,6 +41,102 @@ int main() {
 };
 
 #[test]
+fn compress(rt: HostRuntime) {
+    holds(&rt, rt.alloc(), COMPRESS);
+}
+
+const COMPRESS: Program<'static> = Program {
+    name: "examples/compress",
+    source: br"// The inner loop of a compressor (Lempel, Ziv and Welch): each turn reads a byte, and looks for the string that is open with that byte
+// behind it. Where the table has no such string, the open one's code is written, and the longer one is put into the table. What is open
+// and what the table has is what the turn before left: no turn can run ahead of it.
+int in[5000];
+int n_in;
+
+int key[4096];
+int code[4096];
+int next_code = 256;
+
+int out[5000];
+int n_out;
+
+// where a string stands in the table, or would stand
+int place_of(int open, int byte) {
+  int wanted = open * 256 + byte + 1;
+  int at = (byte * 16 ^ open) & 4095;
+  while (key[at] && key[at] != wanted) at = (at + 1) & 4095;
+  return at;
+}
+
+int main() {
+  if (n_in == 0) return 0;
+  int open = in[0];
+  pfor (int i = 1; i < n_in; i++) {
+    int byte = in[i];
+    int at = place_of(open, byte);
+    if (key[at]) {
+      open = code[at];
+    } else {
+      out[n_out] = open;
+      n_out++;
+      if (next_code < 2048) {
+        key[at] = open * 256 + byte + 1;
+        code[at] = next_code;
+        next_code++;
+      }
+      open = byte;
+    }
+  }
+  out[n_out] = open;
+  n_out++;
+
+  int check = 0;
+  for (int i = 0; i < n_out; i++) check = check * 31 + out[i];
+  print(n_in);
+  print(n_out);
+  print(check);
+  return 0;
+}
+",
+    input: br" 104 111 119  32 109 117  99 104  32 119 111 111 100  32 119 111
+ 117 108 100  32  97  32 119 111 111 100  99 104 117  99 107  32
+  99 104 117  99 107  32 105 102  32  97  32 119 111 111 100  99
+ 104 117  99 107  32  99 111 117 108 100  32  99 104 117  99 107
+  32 119 111 111 100  63  10  97  32 119 111 111 100  99 104 117
+  99 107  32 119 111 117 108 100  32  99 104 117  99 107  32  97
+ 115  32 109 117  99 104  32 119 111 111 100  32  97 115  32  97
+  32 119 111 111 100  99 104 117  99 107  32  99 111 117 108 100
+  32  99 104 117  99 107  10 105 102  32  97  32 119 111 111 100
+  99 104 117  99 107  32  99 111 117 108 100  32  99 104 117  99
+ 107  32 119 111 111 100  46  10 104 111 119  32 109 117  99 104
+  32 119 111 111 100  32 119 111 117 108 100  32  97  32 119 111
+ 111 100  99 104 117  99 107  32  99 104 117  99 107  32 105 102
+  32  97  32 119 111 111 100  99 104 117  99 107  32  99 111 117
+ 108 100  32  99 104 117  99 107  32 119 111 111 100  63  10  97
+  32 119 111 111 100  99 104 117  99 107  32 119 111 117 108 100
+  32  99 104 117  99 107  32  97 115  32 109 117  99 104  32 119
+ 111 111 100  32  97 115  32  97  32 119 111 111 100  99 104 117
+  99 107  32  99 111 117 108 100  32  99 104 117  99 107  10 105
+ 102  32  97  32 119 111 111 100  99 104 117  99 107  32  99 111
+ 117 108 100  32  99 104 117  99 107  32 119 111 111 100  46  10
+ 104 111 119  32 109 117  99 104  32 119 111 111 100  32 119 111
+ 117 108 100  32  97  32 119 111 111 100  99 104 117  99 107  32
+  99 104 117  99 107  32 105 102  32  97  32 119 111 111 100  99
+ 104 117  99 107  32  99 111 117 108 100  32  99 104 117  99 107
+  32 119 111 111 100  63  10  97  32 119 111 111 100  99 104 117
+  99 107  32 119 111 117 108 100  32  99 104 117  99 107  32  97
+ 115  32 109 117  99 104  32 119 111 111 100  32  97 115  32  97
+  32 119 111 111 100  99 104 117  99 107  32  99 111 117 108 100
+  32  99 104 117  99 107  10 105 102  32  97  32 119 111 111 100
+  99 104 117  99 107  32  99 111 117 108 100  32  99 104 117  99
+ 107  32 119 111 111 100  46  10
+",
+    text: b"504\n166\n-1035883549\n",
+    returned: 0,
+    turns: None,
+};
+
+#[test]
 fn count(rt: HostRuntime) {
     holds(&rt, rt.alloc(), COUNT);
 }
@@ -52,6 +148,31 @@ int c; int main(){ pwhile(c<3){ print(c); c=c+1; } }
 ",
     input: b"",
     text: b"0\n1\n2\n",
+    returned: 0,
+    turns: None,
+};
+
+#[test]
+fn grep(rt: HostRuntime) {
+    holds(&rt, rt.alloc(), GREP);
+}
+
+const GREP: Program<'static> = Program {
+    name: "examples/grep",
+    source: b"// The lines of the input that a pattern stands in, where a dot stands for any byte but a line feed. The input is a text, given as the\n// numbers of its bytes (words.hc says how to make one). Each turn searches a line.\nint in[20000];\nint n_in;\n\n// \"on.\" and a 0 behind it\nint pattern[4] = {111, 110, 46, 0};\n\nint lines;\nint start[2000];\nint stop[2000];\nint hit[2000];\n\nvoid find_lines() {\n  int at = 0;\n  while (at < n_in && lines < 2000) {\n    start[lines] = at;\n    while (at < n_in && in[at] != 10) at++;\n    stop[lines] = at;\n    lines++;\n    at++;\n  }\n}\n\n// whether the pattern stands from this place on, in a line that ends there\nint stands(int at, int end) {\n  for (int k = 0; pattern[k]; k++) {\n    if (at + k >= end) return 0;\n    if (pattern[k] != 46 && pattern[k] != in[at + k]) return 0;\n  }\n  return 1;\n}\n\nint main() {\n  find_lines();\n  pfor (int l = 0; l < lines; l++) {\n    int end = stop[l];\n    for (int at = start[l]; at < end && !hit[l]; at++) {\n      if (stands(at, end)) hit[l] = 1;\n    }\n  }\n\n  int hits = 0;\n  for (int l = 0; l < lines; l++) {\n    if (hit[l]) {\n      for (int at = start[l]; at < stop[l]; at++) emit(in[at]);\n      emit(10);\n      hits++;\n    }\n  }\n  print(hits);\n  return 0;\n}\n",
+    input: br"  65  32 109  97 114 107 101 100  32 108 111 111 112  32 115  97
+ 121 115  32 116 104  97 116  32 105 116 115  32 116 117 114 110
+ 115  32 109  97 121  32 114 117 110  10  97 104 101  97 100  32
+ 111 102  32 111 110 101  32  97 110 111 116 104 101 114  46  10
+  10  87 104  97 116  32 105 116  32 112 114 105 110 116 115  32
+ 105 115  32 119 104  97 116  32 111 110 101  32 116 104 114 101
+  97 100  32 119 111 117 108 100  32 112 114 105 110 116  46  10
+   9  84  97  98 115  44  32 116 119 111  32  32  98 108  97 110
+ 107 115  44  32  97 110 100  32  97  32 108  97 115 116  32 108
+ 105 110 101  32 119 105 116 104 111 117 116  32  97 110  32 101
+ 110 100  10  99 111 117 110 116  32 116 111 111
+",
+    text: b"ahead of one another.\nWhat it prints is what one thread would print.\n2\n",
     returned: 0,
     turns: None,
 };
@@ -524,6 +645,20 @@ int main() {
 ",
     input: b"",
     text: b"5050\n338350\n25502500\n",
+    returned: 0,
+    turns: None,
+};
+
+#[test]
+fn terms(rt: HostRuntime) {
+    holds(&rt, rt.alloc(), TERMS);
+}
+
+const TERMS: Program<'static> = Program {
+    name: "examples/terms",
+    source: b"// Truth tables as in eqntott: the terms of a table, each a row of 0, 1 and 2 (for \"either\"), are brought into order. Its time goes into\n// the comparison of two terms, a loop that ends at the first place where they differ. Here that is a plain loop, and each turn finds the\n// place of one term among all others.\nint term[640];\nint place[40];\nint order[40];\n\nvoid make_terms() {\n  int seed = 12345;\n  for (int k = 0; k < 640; k++) {\n    seed = (seed * 1103515245 + 12345) & 2147483647;\n    // the first places of most terms are alike\n    if (k % 16 < 9) term[k] = 1; else term[k] = (seed >> 16) % 3;\n  }\n}\n\n// below 0, 0 or above 0, as the first term stands before the second one, is the same, or stands behind it\nint compare(int one, int other) {\n  for (int k = 0; k < 16; k++) {\n    int a = term[one * 16 + k];\n    int b = term[other * 16 + k];\n    if (a == 2) a = 0;\n    if (b == 2) b = 0;\n    if (a != b) return a - b;\n  }\n  return 0;\n}\n\nint main() {\n  make_terms();\n  pfor (int one = 0; one < 40; one++) {\n    int before = 0;\n    for (int other = 0; other < 40; other++) {\n      int c = compare(other, one);\n      if (c < 0 || (c == 0 && other < one)) before++;\n    }\n    place[one] = before;\n  }\n\n  for (int one = 0; one < 40; one++) order[place[one]] = one;\n  for (int k = 0; k < 40; k++) print(order[k]);\n  return 0;\n}\n",
+    input: b"",
+    text: b"5\n20\n11\n2\n17\n9\n16\n14\n26\n15\n27\n38\n18\n31\n32\n34\n35\n23\n19\n24\n4\n0\n25\n28\n13\n36\n39\n6\n8\n29\n21\n33\n12\n30\n3\n22\n10\n7\n37\n1\n",
     returned: 0,
     turns: None,
 };

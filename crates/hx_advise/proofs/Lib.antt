@@ -1,0 +1,4 @@
+pub mod Events
+pub mod Watches
+pub mod Loops
+pub mod Courses
