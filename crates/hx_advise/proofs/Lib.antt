@@ -2,3 +2,4 @@ pub mod Events
 pub mod Watches
 pub mod Loops
 pub mod Courses
+pub mod Runs

@@ -2,3 +2,4 @@ pub mod Events
 pub mod Watch
 pub mod Regions
 pub mod Course
+pub mod Runs

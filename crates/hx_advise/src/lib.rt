@@ -5,10 +5,8 @@
 pub mod laws;
 mod program;
 mod region;
-mod text;
 mod watch;
 
 pub use program::{Advice, Seen, advise};
 pub use region::{Watched, watch_region};
-pub use text::{Heading, put_advice, put_end};
 pub use watch::{Need, Watch};

@@ -1,7 +1,8 @@
 // A whole program, its marked loops watched.
 
-ghost use Rattle.std.specs.Prelude.{◌≡◌, ◌↔◌, ◌<◌, ◌≤◌, IfOk, IsErrOf, length};
-ghost use Rattle.hx_code.specs.Machine.{room_for_input};
+ghost use Rattle.std.specs.Prelude.{◌≡◌, ◌↔◌, ◌<◌, ◌≤◌, IfOk, IfSome, IsErrOf, OnOk, length};
+ghost use Rattle.hx_code.specs.Machine.{InputFits, room_for_input};
+ghost use Rattle.hx_advise.specs.Runs.{Stands};
 
 use crate::region::{Watched, watch_region};
 use crate::watch::Need;
@@ -113,38 +114,26 @@ fn pass<'c>(
     }
 }
 
-/// Runs code on an input on one thread, for at most so many words, and watches each marked loop that it opens. Words between loops are
-/// counted in blocks of 256.
-///
-/// Refusals are those of `Plain::new`.
-pub fn advise(
+// Goes on with a run, and watches each loop that it opens.
+fn watch_loops<'c>(
     alloc: Global,
-    code: &Code,
-    input: &[i32],
+    code: &'c Code,
+    plain: Plain<'c>,
     steps: u64,
-) -> Result<Advice, PlainError>
+) -> Result<Advice, AllocError>
+    requires { Stands code.now plain }
 {
     let mut loops = nothing_seen(alloc, code)?;
-    let mut plain = Plain::new(alloc, code, input)?;
+    let mut plain = plain;
     let mut left = steps;
     while left > 0 {
         let some = left.min(STEPS_AT_ONCE);
         left -= some;
         match plain.to_region(some) {
-            Paused::Ended(_, _) => {
-                return Ok(Advice {
-                    loops,
-                    has_ended: true,
-                });
-            }
+            Paused::Ended(_, _) => return Ok(told(loops, true)),
             Paused::More(more) => plain = more,
             Paused::At(open) => match pass(alloc, code, open, left, &mut loops)? {
-                None => {
-                    return Ok(Advice {
-                        loops,
-                        has_ended: false,
-                    });
-                }
+                None => return Ok(told(loops, false)),
                 Some((behind, words)) => {
                     plain = behind;
                     left -= words;
@@ -152,8 +141,29 @@ pub fn advise(
             },
         }
     }
-    Ok(Advice {
-        loops,
-        has_ended: false,
-    })
+    Ok(told(loops, false))
+}
+
+fn told(loops: Vec<Seen>, has_ended: bool) -> Advice {
+    Advice { loops, has_ended }
+}
+
+/// Runs code on an input on one thread, for at most so many words, and watches each marked loop that it opens. Words between loops are
+/// counted in blocks of 256.
+///
+/// `InputUnfit` exactly where the input is longer than its array; another error is want of memory.
+pub fn advise(
+    alloc: Global,
+    code: &Code,
+    input: &[i32],
+    steps: u64,
+) -> Result<Advice, PlainError>
+    ensures fits { OnOk result (InputFits code.now input.now) }
+    ensures unfit { IsErrOf result PlainError.InputUnfit ↔ (room_for_input code.now < length input.now) }
+{
+    let plain = Plain::new(alloc, code, input)?;
+    match watch_loops(alloc, code, plain, steps) {
+        Ok(advice) => Ok(advice),
+        Err(_) => Err(PlainError::OutOfMemory),
+    }
 }

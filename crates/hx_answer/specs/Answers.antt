@@ -94,9 +94,13 @@ ReplayAnswer input asked source rest old new status.Fault = ⊥
 
 -- ---- advice
 
--- the command `advise`: some advice is shown of a source that has code, or the source or its input are refused
+-- there is code of the source
+abbrev pub HasCode : List ℕ → Type 0
+HasCode source = (code : CodeView) × IsCodeOf source code
+
+-- the command `advise`: some text is shown of a source that has code; of that text nothing is said
 abbrev pub AdviceAnswer : List ℤ → Option (List ℕ) → Option (List ℕ) → Option (List ℕ) → Option (List ℕ) → Status → Type 0
-AdviceAnswer input source rest old new status.Done = OfRead source rest (λ bytes. (code : CodeView) × IsCodeOf bytes code × (text : List ℕ) × Appends old new text)
+AdviceAnswer input source rest old new status.Done = OfRead source rest (λ bytes. HasCode bytes × ((text : List ℕ) × Appends old new text))
 AdviceAnswer input source rest old new status.Refused = OfRead source rest (λ bytes. IsRefused status_of_refusal (RefusesRun bytes input)) × (new ≡ old)
 AdviceAnswer input source rest old new status.Memory = new ≡ old
 AdviceAnswer input source rest old new status.Device = Unit {0}

@@ -1,11 +1,14 @@
 // What holds the marked loops of a source's program back.
 
-ghost use Rattle.std.specs.Prelude.{◌≡◌, ◌+◌, ◌-◌, ◌^◌, ◌<◌};
-ghost use Rattle.hx_answer.specs.Answers.{failed_devices, AdviceAnswer};
+ghost use Rattle.std.specs.Prelude.{◌≡◌, ◌+◌, ◌-◌, ◌^◌, ◌<◌, IfErr, OnOk};
+ghost use Rattle.hx_run.specs.Headline.{RefusesRun};
+ghost use Rattle.hx_run.specs.Runs.{RefusesInput};
+ghost use Rattle.hx_answer.specs.Answers.{failed_devices, AdviceAnswer, HasCode};
 
+use crate::advice::{Heading, put_advice, put_end};
 use crate::answer::show_text;
 use crate::status::{Status, tell_refusal};
-use hx_advise::{Advice, Heading, Seen, advise, put_advice, put_end};
+use hx_advise::{Advice, Seen, advise};
 use hx_code::code::Code;
 use hx_device::{ByteSink, ByteSource};
 use hx_names::{lines_of, names_of};
@@ -71,18 +74,31 @@ fn text_of(
     Ok(text)
 }
 
+// What is seen of the loops of code.
+fn seen_of(alloc: Global, code: &Code, input: &[i32], steps: u64) -> Result<Advice, Refusal>
+    ensures { IfErr result (RefusesInput code.now input.now) }
+{
+    match advise(alloc, code, input, steps) {
+        Ok(advice) => Ok(advice),
+        Err(e) => Err(Refusal::from(e)),
+    }
+}
+
 /// Runs a source on an input on one thread, for at most so many words of its code, and tells of each of its marked loops what holds it
 /// back.
 ///
-/// Refusals, in this order: those of `hx_run::compile`; 61. Those for want of memory say nothing.
+/// An `Ok` means that the source has code. Refusals, in this order: those of `hx_run::compile`; 61. Those for want of memory say nothing.
 pub fn advice_of(
     alloc: Global,
     source: &[u8],
     input: &[i32],
     steps: u64,
-) -> Result<Vec<u8>, Refusal> {
+) -> Result<Vec<u8>, Refusal>
+    ensures code { OnOk result (HasCode source.now) }
+    ensures refused { IfErr result (RefusesRun source.now input.now) }
+{
     let code = compile(alloc, source)?;
-    let advice = advise(alloc, &code, input, steps)?;
+    let advice = seen_of(alloc, &code, input, steps)?;
     match text_of(alloc, source, &code, &advice, steps) {
         Ok(text) => Ok(text),
         Err(_) => Err(Refusal::Memory),

@@ -2,6 +2,7 @@
 //! what an answer means.
 #![tactic(auto)]
 
+mod advice;
 mod advising;
 mod answer;
 mod digits;

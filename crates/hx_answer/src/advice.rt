@@ -1,7 +1,6 @@
 // What was seen of a loop, as text.
 
-use crate::program::Seen;
-use crate::watch::Need;
+use hx_advise::{Need, Seen};
 use hx_trace::{Called, put_name};
 use itoa::{Buffer, Integer};
 use std::alloc::AllocError;
@@ -11,7 +10,7 @@ const FEW_WORDS: u64 = 100;
 
 /// Which loop it is: the number of its region, the name of its function, and the line where it begins, where that is known.
 #[derive(Clone, Copy, Debug)]
-pub struct Heading<'a> {
+pub(crate) struct Heading<'a> {
     pub region: usize,
     pub function: &'a [u8],
     pub line: Option<u32>,
@@ -173,7 +172,7 @@ fn put_needs(text: &mut Vec<u8>, names: &[Called], needs: &[Need]) -> Result<(),
 }
 
 /// Puts what was seen of a loop behind a text. An `Err` means that an allocation was refused.
-pub fn put_advice(
+pub(crate) fn put_advice(
     text: &mut Vec<u8>,
     heading: &Heading<'_>,
     names: &[Called],
@@ -191,7 +190,7 @@ pub fn put_advice(
 
 /// Puts behind a text what there is to be said of a whole run: that there are no loops, or that it wasn't over. An `Err` means that an
 /// allocation was refused.
-pub fn put_end(
+pub(crate) fn put_end(
     text: &mut Vec<u8>,
     loops: usize,
     has_ended: bool,
