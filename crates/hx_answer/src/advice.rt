@@ -102,14 +102,16 @@ fn has_word(called: &Called, word: usize) -> bool {
     base <= word && word - base < called.length as usize
 }
 
-// The word behind those from `from` on that were needed and belong to the same array.
+// The word behind the last one that was needed of the array that has the word `from`.
 fn range_end(names: &[Called], needs: &[Need], from: usize) -> usize {
     let mut end = from.saturating_add(1);
     let Some(array) = called(names, from) else {
         return end;
     };
-    while end < needs.len() && needs[end].turns > 0 && has_word(array, end) {
-        end += 1;
+    for (word, need) in needs.iter().enumerate() {
+        if word >= from && need.turns > 0 && has_word(array, word) {
+            end = word.saturating_add(1);
+        }
     }
     end
 }
@@ -121,42 +123,65 @@ fn put_word(text: &mut Vec<u8>, names: &[Called], word: usize) -> Result<(), All
     }
 }
 
-// The least and the greatest number of turns of some needs.
-fn bounds_of(needs: &[Need]) -> (u64, u64) {
-    let least = needs.iter().map(|need| need.turns).min().unwrap_or(0);
-    let greatest = needs.iter().map(|need| need.turns).max().unwrap_or(0);
-    (least, greatest)
+// Of the words that were needed: how many they are, the least and the greatest number of turns, and the least distance.
+#[derive(Clone, Copy)]
+struct Bounds {
+    words: u64,
+    least: u64,
+    greatest: u64,
+    distance: u64,
 }
 
+fn bounds_of(needs: &[Need]) -> Bounds {
+    let mut bounds = Bounds {
+        words: 0,
+        least: u64::MAX,
+        greatest: 0,
+        distance: u64::MAX,
+    };
+    for need in needs {
+        if need.turns > 0 {
+            bounds = Bounds {
+                words: bounds.words.saturating_add(1),
+                least: bounds.least.min(need.turns),
+                greatest: bounds.greatest.max(need.turns),
+                distance: bounds.distance.min(need.distance),
+            };
+        }
+    }
+    bounds
+}
+
+// The words from `from` on that were needed, which belong to one array where there are more than one.
 fn put_range(
     text: &mut Vec<u8>,
     names: &[Called],
     needs: &[Need],
     from: usize,
 ) -> Result<(), AllocError> {
+    let bounds = bounds_of(needs);
     text.extend_from_slice(b"    ")?;
     put_word(text, names, from)?;
-    let last = from.saturating_add(needs.len()).saturating_sub(1);
-    if last > from {
+    if bounds.words > 1 {
         text.extend_from_slice(b" to ")?;
-        put_word(text, names, last)?;
-        text.extend_from_slice(b": each in ")?;
+        put_word(text, names, from.saturating_add(needs.len()).saturating_sub(1))?;
+        text.extend_from_slice(b": ")?;
+        put_number(text, bounds.words)?;
+        text.extend_from_slice(b" elements, each in ")?;
     } else {
         text.extend_from_slice(b": in ")?;
     }
-    let (least, greatest) = bounds_of(needs);
-    if least < greatest {
-        put_number(text, least)?;
+    if bounds.least < bounds.greatest {
+        put_number(text, bounds.least)?;
         text.extend_from_slice(b" to ")?;
     }
-    put_count(text, greatest, b"turn")?;
-    let distance = needs.iter().map(|need| need.distance).min().unwrap_or(0);
+    put_count(text, bounds.greatest, b"turn")?;
     text.extend_from_slice(b", at least ")?;
-    put_count(text, distance, b"turn")?;
+    put_count(text, bounds.distance, b"turn")?;
     text.extend_from_slice(b" behind the one that wrote it\n")
 }
 
-// The words that were needed: arrays by ranges.
+// The words that were needed: of an array those from the first to the last of them.
 fn put_needs(text: &mut Vec<u8>, names: &[Called], needs: &[Need]) -> Result<(), AllocError> {
     let mut at = 0usize;
     while at < needs.len() {

@@ -57,14 +57,14 @@ fn advises_on_prefix_sums(rt: HostRuntime) -> Result<(), Fail> {
         b"int a[10]; int main(){ pfor(int i=1;i<10;i++) a[i]=a[i-1]+i; }",
         b"region 0 in main, line 1: opened 1 time, 9 turns\n\
           \x20 not independent: 8 turns read what an earlier turn wrote\n\
-          \x20   a[1] to a[8]: each in 1 turn, at least 1 turn behind the one that wrote it\n",
+          \x20   a[1] to a[8]: 8 elements, each in 1 turn, at least 1 turn behind the one that wrote it\n",
     )?;
     says(
         &rt,
         b"int a[12]; int main(){ pfor(int i=3;i<12;i++) a[i]=a[i-3]; }",
         b"region 0 in main, line 1: opened 1 time, 9 turns\n\
           \x20 not independent: 6 turns read what an earlier turn wrote\n\
-          \x20   a[3] to a[8]: each in 1 turn, at least 3 turns behind the one that wrote it\n",
+          \x20   a[3] to a[8]: 6 elements, each in 1 turn, at least 3 turns behind the one that wrote it\n",
     )
 }
 
@@ -121,8 +121,7 @@ fn advises_on_histograms(rt: HostRuntime) -> Result<(), Fail> {
         b"int v[6]={3,1,3,0,1,3}; int h[4]; int main(){ pfor(int i=0;i<6;i++) h[v[i]]++; }",
         b"region 0 in main, line 1: opened 1 time, 6 turns\n\
           \x20 not independent: 3 turns read what an earlier turn wrote\n\
-          \x20   h[1]: in 1 turn, at least 3 turns behind the one that wrote it\n\
-          \x20   h[3]: in 2 turns, at least 2 turns behind the one that wrote it\n",
+          \x20   h[1] to h[3]: 2 elements, each in 1 to 2 turns, at least 2 turns behind the one that wrote it\n",
     )
 }
 
