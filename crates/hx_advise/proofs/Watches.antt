@@ -85,8 +85,8 @@ tells_write w w' es b lt turn writers reads writes is t =
     record {
       turn = turn ∙ t.turn;
       writers = λ a la.
-      let la' : a < length w.writers = subst (λ n. a < n) (ap length writers ∙ length-set w.writers b (w.turn + 1)) la in
-      subst (λ xs. IsWriter (Write b ∷ es) a (slice_index xs a)) (sym writers) (writer_at w.writers es b (w.turn + 1) a lt e t.writers la' (same_or_not a b));
+          let la' : a < length w.writers = subst (λ n. a < n) (ap length writers ∙ length-set w.writers b (w.turn + 1)) la in
+          subst (λ xs. IsWriter (Write b ∷ es) a (slice_index xs a)) (sym writers) (writer_at w.writers es b (w.turn + 1) a lt e t.writers la' (same_or_not a b));
       reads = reads ∙ t.reads;
       writes = count_next w'.writes w.writes (writes_in es) writes t.writes;
       verdict = (λ h. write_keeps es b (t.verdict.0 (sym is ∙ h)), λ f. is ∙ t.verdict.1 (write_kept es b f));
@@ -99,8 +99,8 @@ tells_end w w' es turn writers reads writes is t =
     record {
       turn = turn ∙ e;
       writers = λ a la.
-      let la' : a < length w.writers = subst (λ xs. a < length xs) writers la in
-      subst (λ xs. IsWriter (TurnEnd ∷ es) a (slice_index xs a)) (sym writers) (writer_end es a (slice_index w.writers a) (t.writers a la'));
+          let la' : a < length w.writers = subst (λ xs. a < length xs) writers la in
+          subst (λ xs. IsWriter (TurnEnd ∷ es) a (slice_index xs a)) (sym writers) (writer_end es a (slice_index w.writers a) (t.writers a la'));
       reads = reads ∙ t.reads;
       writes = writes ∙ t.writes;
       verdict = (λ h. end_keeps es (t.verdict.0 (sym is ∙ h)), λ f. is ∙ t.verdict.1 (end_kept es f));

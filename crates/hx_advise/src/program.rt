@@ -152,12 +152,7 @@ fn told(loops: Vec<Seen>, has_ended: bool) -> Advice {
 /// counted in blocks of 256.
 ///
 /// `InputUnfit` exactly where the input is longer than its array; another error is want of memory.
-pub fn advise(
-    alloc: Global,
-    code: &Code,
-    input: &[i32],
-    steps: u64,
-) -> Result<Advice, PlainError>
+pub fn advise(alloc: Global, code: &Code, input: &[i32], steps: u64) -> Result<Advice, PlainError>
     ensures fits { OnOk result (InputFits code.now input.now) }
     ensures unfit { IsErrOf result PlainError.InputUnfit ↔ (room_for_input code.now < length input.now) }
 {

@@ -84,8 +84,7 @@ fn put_few(text: &mut Vec<u8>, seen: &Seen) -> Result<(), AllocError> {
 
 fn put_verdict(text: &mut Vec<u8>, seen: &Seen) -> Result<(), AllocError> {
     if seen.is_independent {
-        return text
-            .extend_from_slice(b"  independent: no turn read what an earlier turn wrote\n");
+        return text.extend_from_slice(b"  independent: no turn read what an earlier turn wrote\n");
     }
     text.extend_from_slice(b"  not independent: ")?;
     put_count(text, seen.needed.turns, b"turn")?;
@@ -164,7 +163,11 @@ fn put_range(
     put_word(text, names, from)?;
     if bounds.words > 1 {
         text.extend_from_slice(b" to ")?;
-        put_word(text, names, from.saturating_add(needs.len()).saturating_sub(1))?;
+        put_word(
+            text,
+            names,
+            from.saturating_add(needs.len()).saturating_sub(1),
+        )?;
         text.extend_from_slice(b": ")?;
         put_number(text, bounds.words)?;
         text.extend_from_slice(b" elements, each in ")?;

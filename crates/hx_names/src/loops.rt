@@ -55,11 +55,7 @@ fn is_mark(token: &Token<'_>) -> bool {
 
 /// The lines where the regions of a source's code begin, in the order of their numbers: those of its marked loops that stand in no
 /// other. The program is that of the source. An `Err` means that an allocation was refused.
-pub fn lines_of(
-    alloc: Global,
-    source: &[u8],
-    program: &Program,
-) -> Result<Vec<u32>, AllocError> {
+pub fn lines_of(alloc: Global, source: &[u8], program: &Program) -> Result<Vec<u32>, AllocError> {
     let mut outer = Vec::new(alloc);
     for item in &program.items {
         if let Item::Function(function) = item {

@@ -8,7 +8,8 @@ use crate::request::{Paths, Request, read_words};
 use clap::error::{Error, ErrorKind};
 use hx_answer::{
     Asked, Kept, Schedule, Status, answer_advise, answer_check, answer_execution, answer_explain,
-    answer_replay, answer_words, explain_check, explain_execution, tell_memory, tell_no_number, tell_write_failed,
+    answer_replay, answer_words, explain_check, explain_execution, tell_memory, tell_no_number,
+    tell_write_failed,
 };
 use hx_device::{Reading, Writing};
 use hx_run::Mode;

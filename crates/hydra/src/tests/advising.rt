@@ -222,11 +222,7 @@ fn advises_on_loops_that_open_again(rt: HostRuntime) -> Result<(), Fail> {
           \x20 not independent: 4 turns read what an earlier turn wrote\n\
           \x20   n: in 4 turns, at least 1 turn behind the one that wrote it\n",
     )?;
-    says(
-        &rt,
-        b"int main(){ print(1); }",
-        b"no marked loops\n",
-    )
+    says(&rt, b"int main(){ print(1); }", b"no marked loops\n")
 }
 
 // What a turn costs, counted by hand in the listing; a run that is stopped; and what is refused.
@@ -243,22 +239,35 @@ fn tells_of_runs(rt: HostRuntime) -> Result<(), Fail> {
     let words = ["hydra", "advise", p, "--steps", "271"];
     shows(&rt, p, source, &words, out, b"", 0)?;
     let words = ["hydra", "advise", p];
-    shows(&rt, p, b"int main(", &words, b"", b"hydra: refused 10 at 1:10\n", 2)
+    shows(
+        &rt,
+        p,
+        b"int main(",
+        &words,
+        b"",
+        b"hydra: refused 10 at 1:10\n",
+        2,
+    )
 }
 
 #[test]
 fn advises_on_inputs(rt: HostRuntime) -> Result<(), Fail> {
     let p = "hydra-test-advises-in.hc";
     let q = "hydra-test-advises-in.in";
-    let source = b"int in[4]; int n_in; int h[9]; int main(){ pfor(int i=0;i<n_in;i++) h[in[i]]++; }";
+    let source =
+        b"int in[4]; int n_in; int h[9]; int main(){ pfor(int i=0;i<n_in;i++) h[in[i]]++; }";
     fs::write(&rt, q, b"7 2 7\n")?;
     fs::write(&rt, p, source)?;
     let found = done_by(&rt, &["hydra", "advise", p, "--input", q]);
     fs::remove_file(&rt, p)?;
     fs::remove_file(&rt, q)?;
     let lines = found_in(rt.alloc(), &found.out)?;
-    assert_eq!(&rt; lines.as_slice(), b"region 0 in main, line 1: opened 1 time, 3 turns\n\
+    assert_eq!(&rt;
+        lines.as_slice(),
+        b"region 0 in main, line 1: opened 1 time, 3 turns\n\
         \x20 not independent: 1 turn read what an earlier turn wrote\n\
-        \x20   h[7]: in 1 turn, at least 2 turns behind the one that wrote it\n".as_slice());
+        \x20   h[7]: in 1 turn, at least 2 turns behind the one that wrote it\n"
+            .as_slice()
+    );
     Ok(())
 }

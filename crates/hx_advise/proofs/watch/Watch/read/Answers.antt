@@ -34,11 +34,11 @@ returns-else-writer-ne0-clause-tells c = λ es t.
     let e = element c.self.inside.writers.items c.args.word c.index-writer.result.now lt c.index-writer.ensures in
     elim c.else-writer-ne0.branch [
       | else-writer-ne0-via-then-writer-ne0+else-writer-self w ↦
-        let later : c.self.inside.turn < slice_index c.self.inside.writers.items c.args.word = let g = w.if-writer-self.false in omega (arith, g, e) in
-        subst (λ (w : WatchView). Tells w (Read c.args.word ∷ es)) (sym w.self-is)
-        (tells_own _ _ es c.args.word lt (inr later) refl refl c.saturating_add-self-inside.ensures refl refl before)
+          let later : c.self.inside.turn < slice_index c.self.inside.writers.items c.args.word = let g = w.if-writer-self.false in omega (arith, g, e) in
+          subst (λ (w : WatchView). Tells w (Read c.args.word ∷ es)) (sym w.self-is)
+          (tells_own _ _ es c.args.word lt (inr later) refl refl c.saturating_add-self-inside.ensures refl refl before)
       | else-writer-ne0-via-else-writer-ne0 w ↦
-        let none : slice_index c.self.inside.writers.items c.args.word ≡ 0 = sym e ∙ w.if-writer-ne0.false in
-        subst (λ (w : WatchView). Tells w (Read c.args.word ∷ es)) (sym w.self-is)
-        (tells_own _ _ es c.args.word lt (inl none) refl refl c.saturating_add-self-inside.ensures refl refl before)
+          let none : slice_index c.self.inside.writers.items c.args.word ≡ 0 = sym e ∙ w.if-writer-ne0.false in
+          subst (λ (w : WatchView). Tells w (Read c.args.word ∷ es)) (sym w.self-is)
+          (tells_own _ _ es c.args.word lt (inl none) refl refl c.saturating_add-self-inside.ensures refl refl before)
     ]
