@@ -153,7 +153,7 @@ module _ (code : CodeView) (o : Opened) (entry : List ℤ) where
   pub goes_on_still : (n : ℕ) (c : Course) → Keeps code o entry n c → Followed code o entry n false c
   goes_on_still n c k = record {
     tells = k.tells;
-    ended = (λ h. let no : false ≡ true = h in absurd cc, λ over. absurd (subst IsOver k.going over));
+    over = (λ h. let no : false ≡ true = h in absurd cc, λ over. absurd (subst IsOver k.going over));
   }
 
   -- its last word asks this, and tells of no event
@@ -162,7 +162,7 @@ module _ (code : CodeView) (o : Opened) (entry : List ℤ) where
       let h = asked n m c.local q next (store_of c.store.items) c.text.items c.watch.turn ask t k.going in
       record {
         tells = subst (λ w. Tells w (told (n + m + 1))) (sym same) (subst (Tells c.watch) (sym (h.1 ∙ none)) k.tells);
-        ended = (λ _. subst IsOver (sym h.0) over, λ _. refl);
+        over = (λ _. subst IsOver (sym h.0) over, λ _. refl);
       }
 
   pub ended_left : (n m : ℕ) (c : Course) (q : LocalView) (next : Next) (d : Course) → LocalStretch code m c.local Leaves next q → Keeps code o entry n c → d.watch ≡ c.watch → Followed code o entry (n + m + 1) true d

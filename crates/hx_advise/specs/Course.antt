@@ -23,4 +23,4 @@ pub record Keeps (code : CodeView) (o : Opened) (entry : List ℤ) (words : ℕ)
 -- it was followed for so many words, and has ended with the last of them or goes on
 pub record Followed (code : CodeView) (o : Opened) (entry : List ℤ) (words : ℕ) (ended : Bool) (c : Course) : Type 0 where
   pub tells : Tells c.watch (events_after (region_in code o) (store_of entry) words)
-  pub ended : IsTrue ended ↔ IsOver (after (region_in code o) (store_of entry) words)
+  pub over : IsTrue ended ↔ IsOver (after (region_in code o) (store_of entry) words)
