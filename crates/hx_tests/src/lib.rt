@@ -10,8 +10,6 @@ mod codes;
 #[cfg(test)]
 mod fakes;
 #[cfg(test)]
-mod forged;
-#[cfg(test)]
 mod frames;
 #[cfg(test)]
 mod lexing;
