@@ -4,13 +4,15 @@
      REFUSE_ALLOCATION=N   the N-th allocation, counted from 1
      REFUSE_FROM=N         the N-th and all behind it
      REFUSE_THREAD=N       the N-th start of a thread and all behind it
-     REFUSE_SEEN=PATH      a file that is made as soon as something is refused */
+     REFUSE_SEEN=PATH      a file that is made as soon as something is refused
+     REFUSE_COUNT=PATH     a file into which the number of allocations is written at the end */
 #define _GNU_SOURCE
 #include <errno.h>
 #include <fcntl.h>
 #include <link.h>
 #include <pthread.h>
 #include <stdatomic.h>
+#include <stdio.h>
 #include <stdlib.h>
 #include <unistd.h>
 #include <dlfcn.h>
@@ -48,6 +50,15 @@ __attribute__((constructor)) static void begin(void) {
   from = number_in("REFUSE_FROM");
   thread_from = number_in("REFUSE_THREAD");
   seen = getenv("REFUSE_SEEN");
+}
+
+__attribute__((destructor)) static void end(void) {
+  const char *path = getenv("REFUSE_COUNT");
+  FILE *file = path == NULL ? NULL : fopen(path, "w");
+  if (file != NULL) {
+    fprintf(file, "%lu\n", atomic_load(&allocations));
+    fclose(file);
+  }
 }
 
 static void is_seen(void) {

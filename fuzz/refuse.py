@@ -1,12 +1,12 @@
 #!/usr/bin/env python3
 """A machine that fails, around the built program `hydra`: each of its allocations refused in turn, threads that don't start, and outputs
-that take nothing. A C compiler is wanted.
+that take nothing. And the allocations of runs with few and with many marked loops, counted. A C compiler is wanted.
 
     fuzz/refuse.py                       all of it
     fuzz/refuse.py --hydra PROGRAM       another build
 
 Behind a refused allocation a command writes what it writes else, with its own status, or nothing but `hydra: memory`, with status 3.
-Without threads it writes what it writes else. A full disk and a pipe whose reader has gone are status 4 and `hydra: write failed`.
+Without threads it writes what it writes else. A run takes memory as often with nine marked loops as with one. A full disk and a pipe whose reader has gone are status 4 and `hydra: write failed`.
 The last line has the figures; the exit status is 1 where something failed.
 """
 
@@ -27,6 +27,7 @@ FOUND = (
 HIGHEST = "int main(){ print(%s1%s); }" % ("(" * 195, ")" * 195)
 HIGHER = "int main(){ print(%s1%s); }" % ("(" * 196, ")" * 196)
 SUM = "int in[3]; int n_in; int main(){ int s=0; pfor(int i=0;i<n_in;i++) s+=in[i]; print(s); return s; }"
+LOOPS = "int c; int main(){ int k; for(k=0;k<%d;k++) pfor(int i=0;i<2;i++) c+=k; print(c>=0); }"
 PAST = "int a[4]; int main(){ pfor(int i=0;i<8;i++){ a[i]=i+1; print(i);} }"
 
 # what each program prints
@@ -45,6 +46,7 @@ class Machine:
         self.seen = os.path.join(self.folder, "seen")
         self.path = os.path.join(self.folder, "source.hc")
         self.input = os.path.join(self.folder, "source.in")
+        self.count = os.path.join(self.folder, "count")
         self.failed = 0
         compiler = shutil.which(os.environ.get("CC", "cc"))
         if compiler is None:
@@ -125,6 +127,23 @@ def refuse_threads(machine):
     return runs
 
 
+def count_allocations(machine):
+    """How often a run takes memory doesn't depend on how many marked loops it comes to."""
+    runs = 0
+    for workers in ("1", "2", "4", "8"):
+        counts = []
+        for loops in (1, 2, 9):
+            machine.put(LOOPS % loops)
+            words = ["run", machine.path, "--workers", workers]
+            _, told = machine.call(words, REFUSE_COUNT=machine.count)
+            with open(machine.count) as counted:
+                counts.append(int(counted.read()))
+            runs += 1
+            if told != (0, b"1\n", b"") or counts[-1] != counts[0]:
+                machine.fails("%d loops: %d allocations, and %d with one" % (loops, counts[-1], counts[0]), words, told)
+    return runs
+
+
 def shut_outputs(machine):
     """A full disk, and a pipe whose reader has gone."""
     runs = 0
@@ -155,10 +174,11 @@ def main():
     machine = Machine(words.hydra)
     allocations = refuse_allocations(machine)
     threads = refuse_threads(machine)
+    counts = count_allocations(machine)
     outputs = shut_outputs(machine)
     shutil.rmtree(machine.folder)
-    print("%d runs with allocations refused, %d with threads refused, %d with an output that is shut: %d failed" % (
-        allocations, threads, outputs, machine.failed))
+    print("%d runs with allocations refused, %d with threads refused, %d counted, %d with an output that is shut: %d failed" % (
+        allocations, threads, counts, outputs, machine.failed))
     sys.exit(1 if machine.failed else 0)
 
 

@@ -13,6 +13,10 @@ use Rattle.hx_run.specs.declared.running.PlainRan.TheVariants.{Ended, More}
 abbrev pub after : CodeView → List ℤ → ℕ → Machine
 after code input n = machine_after code n (opening_machine code input)
 
+-- a machine of the code before its first word
+abbrev pub IsOpening : CodeView → List ℤ → PlainView → Type 0
+IsOpening code input p = p ≡ record { code = code; machine = opening_machine code input }
+
 -- the machine has ended with this outcome and these counts
 abbrev pub EndsAs : CodeView → Machine → Finish → Type 0
 EndsAs code m f = EndsWith code m f.outcome × (f.counts ≡ counts_of m)

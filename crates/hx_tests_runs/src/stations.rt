@@ -1,4 +1,4 @@
-// Many short loops, one after another.
+// Workers that stay from loop to loop.
 
 use hx_run::{Unwatched, run};
 use hx_tree::outcome::Settings;

@@ -4,12 +4,12 @@ use Rattle.hx_code.specs.Machine.{EndsWith, counts_of}
 use Rattle.hx_word.specs.Plain.{one_store}
 use Rattle.hx_run.proofs.Runs.{next_words}
 use Rattle.hx_run.proofs.Behind.{reached_behind}
-use Rattle.hx_run.proofs.running.run_code.Goals as goal
+use Rattle.hx_run.proofs.running.run_to_end.Goals as goal
 
-pub returns-in-Ended-clause-ended : goal.returns-in-Ended-clause-ended
-returns-in-Ended-clause-ended g c =
+pub returns-in-Ended-clause : goal.returns-in-Ended-clause
+returns-in-Ended-clause g c =
     let h = c.loop.invariant.2 in
-    let told = next_words c.args.code.now c.args.input.now c.loop.plain 1024 (λ code m. EndsWith code m c.in-Ended.outcome × (c.in-Ended.counts ≡ counts_of m)) h (λ m e. let x = c.in-Ended.ensures m e in (x.1, x.2)) in (
+    let told = next_words g.R.Run.setup.code g.I.Given.input c.loop.plain 1024 (λ code m. EndsWith code m c.in-Ended.outcome × (c.in-Ended.counts ≡ counts_of m)) h (λ m e. let x = c.in-Ended.ensures m e in (x.1, x.2)) in (
       1024 + h.words,
       record {
         ends = told.0;
@@ -21,10 +21,10 @@ returns-in-Ended-clause-ended g c =
 pub loop-preserved-in-More : goal.loop-preserved-in-More
 loop-preserved-in-More g c =
     let h = c.loop.invariant.2 in
-    let more = next_words c.args.code.now c.args.input.now c.loop.plain 1024 (λ code m. (c.in-More.more.code ≡ code) × (c.in-More.more.machine ≡ one_store m) × (m.end ≡ None)) h (λ m e. let x = c.in-More.ensures m e in (x.1, x.2, x.3)) in
+    let more = next_words g.R.Run.setup.code g.I.Given.input c.loop.plain 1024 (λ code m. (c.in-More.more.code ≡ code) × (c.in-More.more.machine ≡ one_store m) × (m.end ≡ None)) h (λ m e. let x = c.in-More.ensures m e in (x.1, x.2, x.3)) in
     (tt, tt, record { same = more.0; words = 1024 + h.words; machine = sym more.1 })
 
 pub loop-preserved : goal.loop-preserved
 loop-preserved g c =
     let h = c.loop.invariant.2 in
-    (tt, tt, reached_behind c.args.code.now c.args.input.now c.loop.plain c.in-At.open c.in_ok-behind-in-At.behind 1024 h c.in-At.ensures c.in_ok-behind-in-At.ensures.behind)
+    (tt, tt, reached_behind g.R.Run.setup.code g.I.Given.input c.loop.plain c.in-At.open c.pass-in-At.result.0 1024 h c.in-At.ensures c.pass-in-At.ensures)

@@ -1,0 +1,24 @@
+use Rattle.std.proofs.Common.{◌≡◌, ◌+◌, None, sym, ap}
+use Rattle.hx_tree.specs.declared.outcome.Counts.{Counts}
+use Rattle.hx_code.specs.Machine.{EndsWith, counts_of}
+use Rattle.hx_word.specs.Plain.{one_store}
+use Rattle.hx_run.proofs.Runs.{next_words}
+use Rattle.hx_run.proofs.running.run_alone.Goals as goal
+
+pub returns-in-Ended-clause : goal.returns-in-Ended-clause
+returns-in-Ended-clause g c =
+    let h = c.loop.invariant.2 in
+    let told = next_words g.R.Run.setup.code g.I.Given.input c.loop.plain 1024 (λ code m. EndsWith code m c.in-Ended.outcome × (c.in-Ended.counts ≡ counts_of m)) h (λ m e. c.in-Ended.ensures m e) in (
+      1024 + h.words,
+      record {
+        ends = told.0;
+        regions = ap (λ (n : Counts). n.regions) told.1;
+        turns = ap (λ (n : Counts). n.turns) told.1;
+      },
+    )
+
+pub loop-preserved : goal.loop-preserved
+loop-preserved g c =
+    let h = c.loop.invariant.2 in
+    let more = next_words g.R.Run.setup.code g.I.Given.input c.loop.plain 1024 (λ code m. (c.in-More.more.code ≡ code) × (c.in-More.more.machine ≡ one_store m) × (m.end ≡ None)) h (λ m e. c.in-More.ensures m e) in
+    (tt, tt, record { same = more.0; words = 1024 + h.words; machine = sym more.1 })
