@@ -2,7 +2,7 @@
 
 use crate::limit::input_room;
 use crate::say::{plural, say};
-use hx_lex::tokens;
+use hx_lex::{is_space, tokens};
 use hx_parse::parse;
 use hx_tree::limits::{INPUT_LIMIT, TABLE_LIMIT, WORKER_LIMIT};
 use hx_tree::outcome::Settings;
@@ -66,10 +66,6 @@ fn is_at_most(digits: &[u8], limit: &[u8]) -> bool {
         }
     }
     true
-}
-
-fn is_space(byte: u8) -> bool {
-    byte == 9 || byte == 10 || byte == 13 || byte == 32
 }
 
 // The first word that is no number.

@@ -11,9 +11,10 @@ use Rattle.std.proofs.lemmas.Fmt.{IsAscii-signed, parse-signed_decimal, signed_d
 use Rattle.std.proofs.lemmas.List.Sums.{prefix_len-le-length}
 use Rattle.std.proofs.lemmas.List.{length-drop, length-take-le, append_assoc, append-nil, map-append, drop_all}
 use Rattle.std.proofs.lemmas.List.Elements.{All-append, All-cons, All-nil}
+use Rattle.hx_tree.specs.Lexis.{is_space}
 use Rattle.hx_input.specs.InputText.{IsInputText}
 use Rattle.std.specs.List.{slice_split, onto_first, prefix_len}
-use Rattle.hx_input.specs.InputText.{is_space, is_in_word, words_of, IsWordNumber}
+use Rattle.hx_input.specs.InputText.{is_in_word, words_of, IsWordNumber}
 
 -- ---- one number
 

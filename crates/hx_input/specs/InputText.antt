@@ -1,14 +1,12 @@
 -- Which numbers an input text spells.
-use Rattle.std.specs.Prelude.{◌≡◌, ℕ, ◌≤◌, ℤ, FitsSigned, Bool, not, ◌||◌, ◌==◌, List, length, map, filter, nat_lt, All}
+use Rattle.std.specs.Prelude.{◌≡◌, ℕ, ◌≤◌, ℤ, FitsSigned, Bool, not, List, length, map, filter, nat_lt, All}
 use Rattle.std.specs.Fmt.{signed_decimal}
 use Rattle.std.specs.Int.{w32}
 use Rattle.std.specs.List.{slice_split}
 use Rattle.hx_tree.specs.declared.limits.TheConstants.{INPUT_LIMIT}
+use Rattle.hx_tree.specs.Lexis.{is_space}
 use Rattle.hx_input.specs.declared.input.InputError.{InputError}
 use Rattle.hx_input.specs.declared.input.InputError.TheVariants.{BadText, Memory}
-
-abbrev pub is_space : ℕ → Bool
-is_space b = b == 9 || b == 10 || b == 13 || b == 32
 
 abbrev pub is_in_word : ℕ → Bool
 is_in_word b = not (is_space b)

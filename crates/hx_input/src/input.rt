@@ -3,8 +3,9 @@
 ghost use Rattle.std.specs.Prelude.{◌≡◌, ◌≢◌, ◌↔◌, ◌<◌, IsTrue, ℤ, List, length, IfSome, IfOk, IfErr, None};
 ghost use Rattle.std.specs.List.{prefix_len};
 ghost use Rattle.std.specs.Fmt.{signed_decimal};
-ghost use Rattle.hx_input.specs.InputText.{is_space, is_in_word, IsInputText, IsWordNumber, IsRefusedInput};
+ghost use Rattle.hx_input.specs.InputText.{is_in_word, IsInputText, IsWordNumber, IsRefusedInput};
 
+use hx_lex::is_space;
 use hx_tree::limits::INPUT_LIMIT;
 use itoa::Buffer;
 use std::alloc::{AllocError, AllocFailed, Global};
@@ -28,12 +29,6 @@ impl<T: Drop> From<AllocFailed<T>> for InputError {
     fn from(_e: AllocFailed<T>) -> InputError {
         InputError::Memory
     }
-}
-
-fn is_space(b: u8) -> bool
-    ensures { result ≡ is_space b }
-{
-    b == 9 || b == 10 || b == 13 || b == 32
 }
 
 // How many bytes stand before the first white space.

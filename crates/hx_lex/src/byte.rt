@@ -3,8 +3,8 @@
 ghost use Rattle.std.specs.Prelude.{◌≡◌, ◌≢◌, ◌<◌, length, slice_index, take_while};
 ghost use Rattle.hx_tree.specs.Lexis as lexis;
 
-/// White space: a tab, a line feed, a carriage return or a blank.
-pub(crate) fn is_space(b: u8) -> bool
+/// White space: a tab, a line feed, a carriage return or a blank (of ISO/IEC 9899:2011, 6.4, without form feed and vertical tab).
+pub fn is_space(b: u8) -> bool
     ensures { result ≡ lexis.is_space b }
 {
     b == b'\t' || b == b'\n' || b == b'\r' || b == b' '

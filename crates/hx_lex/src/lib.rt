@@ -10,6 +10,7 @@ mod piece;
 mod spelling;
 mod token;
 
+pub use byte::is_space;
 pub use error::LexError;
 pub use lexer::tokens;
 pub use token::{Span, Token};
