@@ -5,8 +5,8 @@ use Rattle.hx_word.specs.Plain.{one_store}
 use Rattle.hx_run.proofs.Runs.{next_words}
 use Rattle.hx_run.proofs.running.run_alone.Goals as goal
 
-pub returns-in-Ended-clause : goal.returns-in-Ended-clause
-returns-in-Ended-clause g c =
+pub returns-in-Ended : goal.returns-in-Ended
+returns-in-Ended g c =
     let h = c.loop.invariant.2 in
     let told = next_words g.R.Run.setup.code g.I.Given.input c.loop.plain 1024 (λ code m. EndsWith code m c.in-Ended.outcome × (c.in-Ended.counts ≡ counts_of m)) h (λ m e. c.in-Ended.ensures m e) in (
       1024 + h.words,

@@ -6,8 +6,8 @@ use Rattle.hx_run.proofs.Runs.{next_words}
 use Rattle.hx_run.proofs.Behind.{reached_behind}
 use Rattle.hx_run.proofs.running.run_to_end.Goals as goal
 
-pub returns-in-Ended-clause : goal.returns-in-Ended-clause
-returns-in-Ended-clause g c =
+pub returns-in-Ended : goal.returns-in-Ended
+returns-in-Ended g c =
     let h = c.loop.invariant.2 in
     let told = next_words g.R.Run.setup.code g.I.Given.input c.loop.plain 1024 (λ code m. EndsWith code m c.in-Ended.outcome × (c.in-Ended.counts ≡ counts_of m)) h (λ m e. let x = c.in-Ended.ensures m e in (x.1, x.2)) in (
       1024 + h.words,
@@ -27,4 +27,4 @@ loop-preserved-in-More g c =
 pub loop-preserved : goal.loop-preserved
 loop-preserved g c =
     let h = c.loop.invariant.2 in
-    (tt, tt, reached_behind g.R.Run.setup.code g.I.Given.input c.loop.plain c.in-At.open c.pass-in-At.result.0 1024 h c.in-At.ensures c.pass-in-At.ensures)
+    (tt, tt, reached_behind g.R.Run.setup.code g.I.Given.input c.loop.plain c.in-At.open c.pass-behind.result.0 1024 h c.in-At.ensures c.pass-behind.ensures.behind)
