@@ -5,15 +5,15 @@
      REFUSE_FROM=N         the N-th and all behind it
      REFUSE_THREAD=N       the N-th start of a thread and all behind it
      REFUSE_SEEN=PATH      a file that is made as soon as something is refused
-     REFUSE_COUNT=PATH     a file into which the number of allocations is written at the end */
+     REFUSE_COUNT=PATH     a file that has the number of allocations, as eight bytes of this machine's order */
 #define _GNU_SOURCE
 #include <errno.h>
 #include <fcntl.h>
 #include <link.h>
 #include <pthread.h>
 #include <stdatomic.h>
-#include <stdio.h>
 #include <stdlib.h>
+#include <sys/mman.h>
 #include <unistd.h>
 #include <dlfcn.h>
 
@@ -22,7 +22,8 @@ extern void *__libc_realloc(void *old, size_t size);
 
 static unsigned long one, from, thread_from, program_begin, program_end;
 static const char *seen;
-static atomic_ulong allocations, threads;
+static atomic_ulong counted_here, threads;
+static atomic_ulong *allocations = &counted_here;
 
 static unsigned long number_in(const char *name) {
   const char *text = getenv(name);
@@ -50,15 +51,14 @@ __attribute__((constructor)) static void begin(void) {
   from = number_in("REFUSE_FROM");
   thread_from = number_in("REFUSE_THREAD");
   seen = getenv("REFUSE_SEEN");
-}
-
-__attribute__((destructor)) static void end(void) {
   const char *path = getenv("REFUSE_COUNT");
-  FILE *file = path == NULL ? NULL : fopen(path, "w");
-  if (file != NULL) {
-    fprintf(file, "%lu\n", atomic_load(&allocations));
-    fclose(file);
+  int file = path == NULL ? -1 : open(path, O_CREAT | O_TRUNC | O_RDWR, 0600);
+  if (file >= 0 && ftruncate(file, sizeof *allocations) == 0) {
+    /* the program may end without being told of it, so the count stands in the file from the first on */
+    void *place = mmap(NULL, sizeof *allocations, PROT_READ | PROT_WRITE, MAP_SHARED, file, 0);
+    if (place != MAP_FAILED) allocations = place;
   }
+  if (file >= 0) close(file);
 }
 
 static void is_seen(void) {
@@ -71,7 +71,7 @@ static void is_seen(void) {
 static int is_refused(void *caller) {
   unsigned long address = (unsigned long)caller;
   if (address < program_begin || address >= program_end) return 0;
-  unsigned long number = atomic_fetch_add(&allocations, 1) + 1;
+  unsigned long number = atomic_fetch_add(allocations, 1) + 1;
   if (number == one || (from != 0 && number >= from)) {
     is_seen();
     return 1;

@@ -136,8 +136,8 @@ def count_allocations(machine):
             machine.put(LOOPS % loops)
             words = ["run", machine.path, "--workers", workers]
             _, told = machine.call(words, REFUSE_COUNT=machine.count)
-            with open(machine.count) as counted:
-                counts.append(int(counted.read()))
+            with open(machine.count, "rb") as counted:
+                counts.append(int.from_bytes(counted.read(8), sys.byteorder))
             runs += 1
             if told != (0, b"1\n", b"") or counts[-1] != counts[0]:
                 machine.fails("%d loops: %d allocations, and %d with one" % (loops, counts[-1], counts[0]), words, told)

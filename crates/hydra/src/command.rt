@@ -15,6 +15,7 @@ use hx_run::Mode;
 use hx_tree::outcome::Settings;
 use std::alloc::Global;
 use std::convert::AsStr;
+use std::io;
 use std::io::Write;
 use std::rt::Files;
 use std::sync::Wait;
@@ -153,6 +154,17 @@ fn tell_command_line<W: Write, E: Write>(error: &Error, out: &mut W, err: &mut E
         Ok(()) => Status::Done,
         Err(_) => tell_write_failed(err),
     }
+}
+
+/// Says why there are no words of a command line: 3 where there was no memory for them, and 2 where one of them isn't UTF-8.
+pub(crate) fn tell_no_words<E: Write>(error: &io::Error, err: &mut E) -> u8
+    ensures { result ≤ 4 }
+{
+    if error.kind() == io::ErrorKind::OutOfMemory {
+        return tell_memory(err).code();
+    }
+    let _ = err.write_all(b"hydra: a word of the command line is not UTF-8\n");
+    Status::Refused.code()
 }
 
 /// Does what a command line asks for, and answers the status to exit with: 0 for a normal end, or where what was asked

@@ -11,10 +11,17 @@ mod tests;
 use std::io;
 use std::process::ExitCode;
 
-fn main(rt: HostRuntime) -> anyhow::Result<ExitCode> {
-    let words: Vec<String> = std::env::args(&rt)?.collect(rt.alloc())?;
-    let mut out = io::writer(&rt);
+// The words of the command line, the program's own name first.
+fn words_of(rt: &HostRuntime) -> io::Result<Vec<String>> {
+    Ok(std::env::args(rt)?.collect(rt.alloc())?)
+}
+
+fn main(rt: HostRuntime) -> ExitCode {
     let mut err = rt.stderr();
-    let status = command::command(&rt, words.as_slice(), &mut out, &mut err);
-    Ok(ExitCode::from(status))
+    let words = match words_of(&rt) {
+        Ok(words) => words,
+        Err(error) => return ExitCode::from(command::tell_no_words(&error, &mut err)),
+    };
+    let mut out = io::writer(&rt);
+    ExitCode::from(command::command(&rt, words.as_slice(), &mut out, &mut err))
 }
