@@ -1,16 +1,16 @@
 -- The events of a plain region, and what its turns write and expose by its definition.
-use Rattle.std.proofs.Common.{◌≡◌, ◌≢◌, ℕ, zero, suc, ◌<◌, ◌≤◌, ℤ, ◌⊎◌, inl, inr, List, [], ◌∷◌, ◌++◌, Option, Some, None, refl, sym, ap, subst, ◌∙◌, arith}
+use Rattle.std.proofs.Common.{◌≡◌, ◌≢◌, ℕ, zero, suc, ◌+◌, ◌<◌, ◌≤◌, ℤ, ◌⊎◌, inl, inr, List, [], ◌∷◌, ◌++◌, Some, None, refl, sym, ap, subst, ◌∙◌, arith}
 use Rattle.std.specs.Prelude.{◌↔◌}
 use Rattle.hx_code.specs.declared.word.Exit.TheVariants.{Faulted}
 use Rattle.hx_marks.specs.Table.{Table, look, put}
 use Rattle.hx_marks.proofs.Tables.{look_put_own, look_put_other}
 use Rattle.hx_speculation.specs.Iteration.{Store, Ask, Goes, Loads, Stores, Prints, TurnEnds, Leaves, Returns, Faults}
-use Rattle.hx_speculation.specs.Region.{Region, Plain, Going, Over, has_room_for, does, step, steps, Comes}
-use Rattle.hx_speculation.specs.Watch.{Watched, watch, watched, in_turn, ComesWatched, noted as noted_in, noted_of as noted_for, Wrote as WroteLoop, Exposed as ExposedLoop, IsIndependent as IsIndependentLoop}
+use Rattle.hx_speculation.specs.Region.{Region, Plain, Going, Over, has_room_for, does, step, steps}
+use Rattle.hx_speculation.specs.Watch.{Watched, watch, watched, in_turn, noted as noted_in, noted_of as noted_for, Wrote as WroteLoop, Exposed as ExposedLoop, IsIndependent as IsIndependentLoop}
 use Rattle.hx_speculation.proofs.Stores.{if_cases, same_or_not}
 use Rattle.hx_regions.proofs.Plain.{steps_last}
-use Rattle.hx_advise.specs.Events.{Event, Read, Write, TurnEnd, turn_of, HasWritten, Exposed, Wrote, IsIndependent}
-use Rattle.hx_advise.specs.Regions.{noted, noted_of, after, events_after, IsOver}
+use Rattle.hx_advise.specs.Events.{Event, Write, TurnEnd, turn_of, HasWritten, Exposed, Wrote, IsIndependent}
+use Rattle.hx_advise.specs.Regions.{noted, noted_of, after, events_after, IsOver, one_of, words_done}
 
 -- ---- what stays as events are added
 
@@ -182,13 +182,50 @@ module _ {σ : Type 0} (r : Region σ) (entry : Store) where
   over_step (Going q s text k) h = absurd h
   over_step (Over e s text k) h = h
 
-  over_later : (m n : ℕ) → n ≤ m → IsOver (after r entry n) → IsOver (after r entry m)
+  pub over_later : (m n : ℕ) → n ≤ m → IsOver (after r entry n) → IsOver (after r entry m)
   over_later zero n le h = let e : n ≡ 0 = omega arith in subst (λ k. IsOver (after r entry k)) e h
   over_later (suc m) n le h =
       elim (same_or_not n (suc m)) [
         | inl e ↦ subst (λ k. IsOver (after r entry k)) e h
         | inr d ↦ let le' : n ≤ m = omega arith in subst IsOver (sym (after_next m)) (over_step (after r entry m) (over_later m n le' h))
       ]
+
+  -- and nothing more is told of it
+  over_tells : (p : Plain σ) (es : List Event) → IsOver p → noted_of r p es ≡ es
+  over_tells (Going q s text k) es h = absurd h
+  over_tells (Over e s text k) es h = refl
+
+  pub told_still : (m n : ℕ) → n ≤ m → IsOver (after r entry n) → events_after r entry m ≡ events_after r entry n
+  told_still zero n le h = let e : n ≡ 0 = omega arith in ap (λ k. events_after r entry k) (sym e)
+  told_still (suc m) n le h =
+      elim (same_or_not n (suc m)) [
+        | inl e ↦ ap (λ k. events_after r entry k) (sym e)
+        | inr d ↦ let le' : n ≤ m = omega arith in over_tells (after r entry m) (events_after r entry m) (over_later m n le' h) ∙ told_still m n le' h
+      ]
+
+  over_does : (p : Plain σ) (k : ℕ) → IsOver p → k + one_of p ≡ k
+  over_does (Going q s text j) k h = absurd h
+  over_does (Over e s text j) k h = omega arith
+
+  pub done_still : (m n : ℕ) → n ≤ m → IsOver (after r entry n) → words_done r entry m ≡ words_done r entry n
+  done_still zero n le h = let e : n ≡ 0 = omega arith in ap (λ k. words_done r entry k) (sym e)
+  done_still (suc m) n le h =
+      elim (same_or_not n (suc m)) [
+        | inl e ↦ ap (λ k. words_done r entry k) (sym e)
+        | inr d ↦ let le' : n ≤ m = omega arith in over_does (after r entry m) (words_done r entry m) (over_later m n le' h) ∙ done_still m n le' h
+      ]
+
+  going_does : (p : Plain σ) (k : ℕ) → (IsOver p → ⊥) → k + one_of p ≡ suc k
+  going_does (Going q s text j) k h = omega arith
+  going_does (Over e s text j) k h = absurd (h tt)
+
+  -- all words of a region that isn't over before them are its own
+  pub all_done : (n : ℕ) → ((k : ℕ) → k < n → IsOver (after r entry k) → ⊥) → words_done r entry n ≡ n
+  all_done zero f = refl
+  all_done (suc n) f =
+      let fewer : (k : ℕ) → k < n → IsOver (after r entry k) → ⊥ = λ k lt. let more : k < suc n = omega arith in f k more in
+      let last : n < suc n = omega arith in
+      going_does (after r entry n) (words_done r entry n) (f n last) ∙ ap (λ k. suc k) (all_done n fewer)
 
   -- a word of the region comes before its end
   sooner : (m n : ℕ) (q : σ) (s : Store) (text : List ℕ) (k : ℕ) → after r entry m ≡ Going q s text k → IsOver (after r entry n) → suc m ≤ n

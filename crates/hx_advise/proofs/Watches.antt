@@ -1,9 +1,9 @@
 -- What is kept of events tells them, one event later.
-use Rattle.std.proofs.Common.{◌≡◌, ◌≢◌, ℕ, zero, suc, ◌+◌, ◌<◌, ◌≤◌, ◌⊎◌, inl, inr, List, [], ◌∷◌, Bool, true, false, length, refl, sym, ap, subst, ◌∙◌, arith, length-set, get_or-set_same, get_or-set_other}
+use Rattle.std.proofs.Common.{◌≡◌, ◌≢◌, ℕ, suc, ◌+◌, ◌<◌, ◌⊎◌, inl, inr, List, [], ◌∷◌, true, false, length, sym, ap, subst, ◌∙◌, arith, length-set, get_or-set_same, get_or-set_other}
 use Rattle.std.specs.Prelude.{slice_index, slice_set}
 use Rattle.hx_code.specs.Region.{held}
 use Rattle.hx_speculation.proofs.Stores.{same_or_not}
-use Rattle.hx_advise.specs.Events.{Event, Read, Write, TurnEnd, turn_of, Wrote, IsIndependent, reads_in, writes_in}
+use Rattle.hx_advise.specs.Events.{Event, Read, Write, TurnEnd, turn_of, reads_in, writes_in}
 use Rattle.hx_advise.specs.Watch.{WatchView, IsWriter, Tells}
 use Rattle.hx_advise.proofs.Events.{IsOwn, writer_read, writer_end, writer_other, writer_own, write_keeps, write_kept, end_keeps, end_kept, read_keeps, read_kept, read_breaks}
 

@@ -1,3 +1,5 @@
 pub mod Events
 pub mod Watch
 pub mod Regions
+pub mod Course
+pub mod Runs

@@ -1,5 +1,5 @@
 -- What is kept of a list of events.
-use Rattle.std.specs.Prelude.{◌≡◌, ◌↔◌, ◌<◌, ◌≤◌, ◌+◌, ℕ, zero, suc, List, Bool, IsTrue, length, slice_index}
+use Rattle.std.specs.Prelude.{◌≡◌, ◌↔◌, ◌<◌, ◌≤◌, ℕ, zero, suc, List, Bool, IsTrue, length, slice_index}
 use Rattle.hx_code.specs.Region.{held}
 use Rattle.hx_advise.specs.Events.{Event, turn_of, Wrote, IsIndependent, reads_in, writes_in}
 

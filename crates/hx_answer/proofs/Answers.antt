@@ -6,6 +6,7 @@ use Rattle.hx_run.specs.declared.refusal.Refusal.{Refusal}
 use Rattle.hx_run.specs.declared.refusal.Refusal.TheVariants as refusal
 use Rattle.hx_run.specs.Refusals.{is_memory, is_of_device, RefusesSource}
 use Rattle.hx_run.specs.Executions.{IsOfReading, IsReadOf}
+use Rattle.hx_run.specs.Headline.{RefusesRun}
 use Rattle.hx_answer.specs.declared.replaying.NoTrace.{NoTrace}
 use Rattle.hx_answer.specs.declared.replaying.NoTrace.TheVariants as no_trace
 use Rattle.hx_answer.specs.declared.replaying.Replayed.{Replayed}
@@ -14,7 +15,7 @@ use Rattle.hx_answer.specs.declared.status.Status.{Status}
 use Rattle.hx_answer.specs.declared.status.Status.TheVariants as status
 use Rattle.hx_answer.specs.Statuses.{status_of_no_trace, status_of_refusal}
 use Rattle.hx_answer.specs.Replays.{IsReplayOf, RefusesReplay}
-use Rattle.hx_answer.specs.Answers.{failed_devices, CodeAnswer, IsShown, ReplayAnswer, ShowsText}
+use Rattle.hx_answer.specs.Answers.{failed_devices, AdviceAnswer, CodeAnswer, HasCode, IsShown, ReplayAnswer, ShowsText}
 use Rattle.hx_answer.proofs.Statuses.{run_fails_no_device}
 
 -- ---- what is made of code
@@ -93,3 +94,38 @@ replay_shown input asked source rest old new bytes text r status.Device is h of 
 replay_shown input asked source rest old new bytes text r status.Fault is h of shown = absurd shown
 replay_shown input asked source rest old new bytes text r status.Refused is h of shown = absurd shown
 replay_shown input asked source rest old new bytes text r status.Memory is h of shown = absurd shown
+
+-- ---- advice
+
+pub advice_reading : (input : List ℤ) (source rest old : Option (List ℕ)) (e : Refusal) → IsOfReading e → AdviceAnswer input source rest old old (status_of_refusal e)
+advice_reading input source rest old refusal.ReadFailed h = tt
+advice_reading input source rest old refusal.Memory h = refl
+advice_reading input source rest old (refusal.Lex e) h = absurd h
+advice_reading input source rest old (refusal.Parse e) h = absurd h
+advice_reading input source rest old (refusal.Check e) h = absurd h
+advice_reading input source rest old (refusal.Lower e) h = absurd h
+advice_reading input source rest old refusal.Pool h = absurd h
+advice_reading input source rest old refusal.Settings h = absurd h
+advice_reading input source rest old refusal.InputTooLong h = absurd h
+advice_reading input source rest old refusal.WriteFailed h = absurd h
+advice_reading input source rest old refusal.InputText h = absurd h
+
+advice_by_flags : (input : List ℤ) (source rest old : Option (List ℕ)) (bytes : List ℕ) (e : Refusal) (m d : Bool) → is_memory e ≡ m → is_of_device e ≡ d
+    → IsReadOf source rest bytes → RefusesRun bytes input e → AdviceAnswer input source rest old old (if m then status.Memory else (if d then status.Device else status.Refused))
+advice_by_flags input source rest old bytes e true d em ed is h = refl
+advice_by_flags input source rest old bytes e false true em ed is h = tt
+advice_by_flags input source rest old bytes e false false em ed is h =
+    (record { bytes = bytes; is_read = is; says = record { refusal = e; says = h; certain = rw (em, ed) refl } }, refl)
+
+pub advice_refused : (input : List ℤ) (source rest old : Option (List ℕ)) (bytes : List ℕ) (e : Refusal) → IsReadOf source rest bytes → RefusesRun bytes input e
+    → AdviceAnswer input source rest old old (status_of_refusal e)
+advice_refused input source rest old bytes e is h = advice_by_flags input source rest old bytes e (is_memory e) (is_of_device e) refl refl is h
+
+-- advice that is shown
+pub advice_shown : (input : List ℤ) (source rest old new : Option (List ℕ)) (bytes text : List ℕ) (s : Status) → IsReadOf source rest bytes → HasCode bytes → ShowsText text old new s
+    → AdviceAnswer input source rest old new s
+advice_shown input source rest old new bytes text status.Done is h shown = record { bytes = bytes; is_read = is; says = (h, (text, shown)) }
+advice_shown input source rest old new bytes text status.Device is h shown = tt
+advice_shown input source rest old new bytes text status.Fault is h shown = absurd shown
+advice_shown input source rest old new bytes text status.Refused is h shown = absurd shown
+advice_shown input source rest old new bytes text status.Memory is h shown = absurd shown

@@ -11,8 +11,11 @@ use Rattle.hx_run.specs.declared.executing.Done.{Done}
 use Rattle.hx_run.specs.declared.refusal.Refusal.{Refusal}
 use Rattle.hx_run.specs.declared.refusal.Refusal.TheVariants as refusal
 use Rattle.hx_run.specs.Refusals.{RefusesSource}
-use Rattle.hx_run.specs.Headline.{AreInRange, IsCodeOf}
+use Rattle.hx_run.specs.Headline.{AreInRange, IsCodeOf, RefusesRun}
 use Rattle.hx_run.specs.Executions.{IsDone, OfRead, Refuses, RefusesSettings}
+use Rattle.hx_code.specs.Machine.{opening_machine}
+use Rattle.hx_advise.specs.Runs.{IsAdvice}
+use Rattle.hx_answer.specs.declared.advising.Advised.{Advised}
 use Rattle.hx_answer.specs.declared.replaying.Replayed.{Replayed}
 use Rattle.hx_answer.specs.declared.replaying.Schedule.{Schedule}
 use Rattle.hx_answer.specs.declared.replaying.Shown.{Shown}
@@ -91,3 +94,22 @@ ReplayAnswer input asked source rest old new status.Refused = RefusesAsked input
 ReplayAnswer input asked source rest old new status.Memory = new ≡ old
 ReplayAnswer input asked source rest old new status.Device = Unit {0}
 ReplayAnswer input asked source rest old new status.Fault = ⊥
+
+-- ---- advice
+
+-- code of the source, and what was seen of the loops that it opens on an input within so many words
+pub record IsAdvised (source : List ℕ) (input : List ℤ) (steps : ℕ) (a : Advised) : Type 0 where
+  pub code : IsCodeOf source a.code
+  pub advice : IsAdvice a.code (opening_machine a.code input) steps a.advice
+
+-- there is code of the source
+abbrev pub HasCode : List ℕ → Type 0
+HasCode source = (code : CodeView) × IsCodeOf source code
+
+-- the command `advise`: some text is shown of a source that has code; of that text nothing is said
+abbrev pub AdviceAnswer : List ℤ → Option (List ℕ) → Option (List ℕ) → Option (List ℕ) → Option (List ℕ) → Status → Type 0
+AdviceAnswer input source rest old new status.Done = OfRead source rest (λ bytes. HasCode bytes × ((text : List ℕ) × Appends old new text))
+AdviceAnswer input source rest old new status.Refused = OfRead source rest (λ bytes. IsRefused status_of_refusal (RefusesRun bytes input)) × (new ≡ old)
+AdviceAnswer input source rest old new status.Memory = new ≡ old
+AdviceAnswer input source rest old new status.Device = Unit {0}
+AdviceAnswer input source rest old new status.Fault = ⊥

@@ -2,12 +2,15 @@
 //! what an answer means.
 #![tactic(auto)]
 
+mod advice;
+mod advising;
 mod answer;
 mod digits;
 mod explaining;
 mod replaying;
 mod status;
 
+pub use advising::{Advised, advice_of, advised_of, answer_advise};
 pub use answer::{answer_check, answer_execution, answer_replay, answer_words};
 pub use explaining::{Asked, Kept, answer_explain, explain_check, explain_execution};
 pub use replaying::{NoTrace, Replayed, Schedule, Shown, replay_of};

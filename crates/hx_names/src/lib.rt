@@ -3,6 +3,8 @@
 #![tactic(auto)]
 
 mod locals;
+mod loops;
 mod names;
 
+pub use loops::lines_of;
 pub use names::names_of;
