@@ -1,6 +1,5 @@
 // Whole commands, on files that each test writes for itself.
 
-mod advising;
 mod drawing;
 mod edges;
 mod explaining;
