@@ -7,8 +7,9 @@ use crate::files::{input_of, open_source};
 use crate::request::{Paths, Request, read_words};
 use clap::error::{Error, ErrorKind};
 use hx_answer::{
-    Asked, Kept, Schedule, Status, answer_check, answer_execution, answer_explain, answer_replay,
-    answer_words, explain_check, explain_execution, tell_memory, tell_no_number, tell_write_failed,
+    Asked, Kept, Schedule, Status, answer_advise, answer_check, answer_execution, answer_explain,
+    answer_replay, answer_words, explain_check, explain_execution, tell_memory, tell_no_number,
+    tell_write_failed,
 };
 use hx_device::{Reading, Writing};
 use hx_run::Mode;
@@ -94,6 +95,22 @@ fn replay_file<R: Files + AllocGlobal, W: Write, E: Write>(
         &mut out,
         err,
     )
+}
+
+fn advise_file<R: Files + AllocGlobal, W: Write, E: Write>(
+    rt: &R,
+    paths: &Paths<'_>,
+    steps: u64,
+    out: &mut W,
+    err: &mut E,
+) -> Status {
+    let (input, mut source) = match inputs_of(rt, paths, err) {
+        Ok(both) => both,
+        Err(status) => return status,
+    };
+    let mut out = Writing::new(out);
+    let input = input.as_slice();
+    answer_advise(rt.alloc(), &mut source, input, steps, &mut out, err)
 }
 
 fn check_file<R: Files + AllocGlobal, W: Write, E: Write>(
@@ -186,6 +203,7 @@ pub(crate) fn command<R: Files + AllocGlobal + Threads + Wait + Sync, S: AsStr, 
             execute_file(rt, &paths, mode, settings, out, err)
         }
         Ok(Some(Request::Replay(paths, asked))) => replay_file(rt, &paths, &asked, out, err),
+        Ok(Some(Request::Advise(paths, steps))) => advise_file(rt, &paths, steps, out, err),
         Ok(Some(Request::Check(paths))) => check_file(rt, &paths, out, err),
         Ok(Some(Request::Explain(asked))) => explain_number(rt.alloc(), asked, out, err),
         Ok(Some(Request::Words(path))) => list_file(rt, path, out, err),

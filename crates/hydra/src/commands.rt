@@ -242,6 +242,18 @@ fn timeline_command<'a>(alloc: Global) -> Result<Command<'a>, AllocError> {
     schedule_command(alloc, timeline, text)
 }
 
+fn advise_command<'a>(alloc: Global) -> Result<Command<'a>, AllocError> {
+    let advise = command_on_file(
+        alloc,
+        "advise",
+        "Runs a program on one thread, and says of each marked loop what holds it back",
+        "Of each loop: how often it was opened, its turns, what a turn does, and whether its turns were independent in this run. Where \
+         they weren't: the words that turns read which an earlier turn wrote, in how many turns, and how far back.\n\
+         A run that isn't over after its words is told of as far as it came.",
+    );
+    with_steps(alloc, with_input(alloc, advise))
+}
+
 // The program's own, without its commands.
 fn bare_command<'a>(alloc: Global) -> Result<Command<'a>, AllocError> {
     let hydra = Command::new(alloc, "hydra").bin_name("hydra")?;
@@ -277,6 +289,7 @@ pub(crate) fn hydra_command<'a>(alloc: Global) -> Result<Command<'a>, AllocError
     let hydra = with_command(hydra, plain_command(alloc));
     let hydra = with_command(hydra, replay_command(alloc));
     let hydra = with_command(hydra, timeline_command(alloc));
+    let hydra = with_command(hydra, advise_command(alloc));
     let hydra = with_command(hydra, check_command(alloc));
     let hydra = with_command(hydra, words_command(alloc));
     with_command(hydra, explain_command(alloc))

@@ -23,6 +23,8 @@ pub enum Request<'a> {
     Execute(Paths<'a>, Mode, Settings),
     /// A schedule of a region.
     Replay(Paths<'a>, Schedule<'a>),
+    /// What holds the marked loops of a run of at most so many words back.
+    Advise(Paths<'a>, u64),
     /// Whether a source is accepted.
     Check(Paths<'a>),
     /// What a number means; none where the words are no number.
@@ -145,6 +147,8 @@ fn request_of<'a>(name: &str, inner: &ArgMatches<'a>) -> Option<Request<'a>> {
     } else if name == "timeline" {
         let asked = schedule_of(inner, shown_of_timeline(inner));
         Some(Request::Replay(paths_of_replay(inner), asked))
+    } else if name == "advise" {
+        Some(Request::Advise(paths_of_replay(inner), steps_of(inner)))
     } else if name == "check" {
         Some(Request::Check(paths_of_source(inner)))
     } else if name == "words" {

@@ -1,5 +1,6 @@
 // Whole commands, on files that each test writes for itself.
 
+mod advising;
 mod drawing;
 mod edges;
 mod explaining;
