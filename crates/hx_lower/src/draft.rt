@@ -1,6 +1,6 @@
 // The words of a program so far, and which version of a function's words is written.
 
-ghost use Rattle.std.specs.Prelude.{◌≡◌, ◌+◌, ◌<◌, ◌≤◌, ◌^◌, IfOk, OkIff, OnOk, Some, [], ◌∷◌, ◌++◌, length, map, option_map};
+ghost use Rattle.std.specs.Prelude.{◌≡◌, ◌+◌, ◌<◌, ◌≤◌, ◌^◌, IfOk, IfSome, OkIff, OnOk, Some, [], ◌∷◌, ◌++◌, length, map, option_map};
 ghost use Rattle.hx_lowering.specs.Draft.{with_lines, plain_version, cells_from, counter_of};
 ghost use Rattle.hx_lowering.specs.Lines as lines;
 
@@ -55,7 +55,7 @@ impl<'r> Version<'r> {
 
     /// The word that reads a private word in this version.
     pub(crate) fn get_private(&self, private: u32) -> Result<Word, AllocError>
-        ensures { IfOk result (λ w. w ≡ lines.get_private self.now private) }
+        ensures { OkIff result (IfSome (lines.cell_of self.now.carried private) (λ cell. self.now.globals + cell < 2 ^ 32)) (lines.get_private self.now private) }
     {
         match cell_of(self.carried, private) {
             None => Ok(Word::Priv(private)),
@@ -68,7 +68,7 @@ impl<'r> Version<'r> {
 
     /// The word that writes a private word in this version.
     pub(crate) fn set_private(&self, private: u32) -> Result<Word, AllocError>
-        ensures { IfOk result (λ w. w ≡ lines.set_private self.now private) }
+        ensures { OkIff result (IfSome (lines.cell_of self.now.carried private) (λ cell. self.now.globals + cell < 2 ^ 32)) (lines.set_private self.now private) }
     {
         match cell_of(self.carried, private) {
             None => Ok(Word::SetPriv(private)),

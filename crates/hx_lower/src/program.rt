@@ -1,6 +1,6 @@
 // The words of functions and of whole programs, with what is told of them.
 
-ghost use Rattle.std.specs.Prelude.{◌≡◌, ◌<◌, ◌^◌, IfOk, OnOk, length, map, option_map};
+ghost use Rattle.std.specs.Prelude.{◌≡◌, ◌<◌, ◌^◌, IfOk, OkIff, OnOk, length, map, option_map};
 ghost use Rattle.hx_check.specs.Views.{resolved_function, resolved_of};
 ghost use Rattle.hx_code.specs.Validation.{code_of as code_with};
 ghost use Rattle.hx_lowering.specs.Draft.{function_draft, functions_draft, draft_of, code_of};
@@ -63,7 +63,7 @@ fn input_of(input: Option<Words>) -> Option<Array>
 
 // How many words the globals have.
 fn global_count(opening: &Vec<i32>) -> Result<u32, AllocError>
-    ensures { IfOk result (λ n. n ≡ length opening.now.items) }
+    ensures { OkIff result (length opening.now.items < 2 ^ 32) (length opening.now.items) }
 {
     match u32::try_from(opening.len()) {
         Ok(globals) => Ok(globals),
