@@ -10,6 +10,8 @@ mod codes;
 #[cfg(test)]
 mod fakes;
 #[cfg(test)]
+mod forged;
+#[cfg(test)]
 mod frames;
 #[cfg(test)]
 mod lexing;
@@ -19,6 +21,8 @@ mod listings;
 mod nodes;
 #[cfg(test)]
 mod parsing;
+#[cfg(test)]
+mod pools;
 #[cfg(test)]
 mod refined;
 #[cfg(test)]
