@@ -1,6 +1,6 @@
 #!/usr/bin/env bash
 # A thousand short marked loops, one after another: how long a run takes with workers that stay from loop to loop, beside another build
-# of the program, as one whose `run` starts its threads anew for each loop (that of commit eed4104). Both in one run, by the clock, the
+# of the program, as one whose `run` starts its threads anew for each loop (that of commit e39debb). Both in one run, by the clock, the
 # least of some rounds; both must print the same.
 #
 #   bench/stations.sh OTHER [ROUNDS]     OTHER: the other build; the best of so many rounds, 5 if none is named
