@@ -22,6 +22,8 @@ mod nodes;
 #[cfg(test)]
 mod parsing;
 #[cfg(test)]
+mod pools;
+#[cfg(test)]
 mod refined;
 #[cfg(test)]
 mod regions;
