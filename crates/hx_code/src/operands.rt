@@ -4,10 +4,11 @@ ghost use Rattle.std.specs.Prelude.{◌≡◌, ◌+◌, ◌-◌, ◌<◌, ◌≤
 ghost use Rattle.hx_code.specs.Step.{tops};
 
 use crate::same::same_values;
+use hx_tree::limits::OPERAND_LIMIT;
 
 /// The topmost operand.
 #[inline(always)]
-pub(crate) fn top(operands: &[i32; 256], height: usize) -> i32
+pub(crate) fn top(operands: &[i32; OPERAND_LIMIT], height: usize) -> i32
     requires some { 0 < height }
     requires fits { height ≤ 256 }
     ensures { tops operands.now height ≡ result ∷ tops operands.now (height - 1) }
@@ -17,7 +18,7 @@ pub(crate) fn top(operands: &[i32; 256], height: usize) -> i32
 
 /// Puts an operand on top.
 #[inline(always)]
-pub(crate) fn put(operands: &mut [i32; 256], height: usize, value: i32)
+pub(crate) fn put(operands: &mut [i32; OPERAND_LIMIT], height: usize, value: i32)
     requires { height < 256 }
     ensures { tops operands.new (height + 1) ≡ value ∷ tops operands.old height }
 {
@@ -25,7 +26,11 @@ pub(crate) fn put(operands: &mut [i32; 256], height: usize, value: i32)
 }
 
 /// Whether two calls with so many operands have the same ones.
-pub(crate) fn same_operands(a: &[i32; 256], b: &[i32; 256], height: usize) -> bool
+pub(crate) fn same_operands(
+    a: &[i32; OPERAND_LIMIT],
+    b: &[i32; OPERAND_LIMIT],
+    height: usize,
+) -> bool
     requires { height ≤ 256 }
     ensures { IsTrue result ↔ (tops a.now height ≡ tops b.now height) }
 {
@@ -33,7 +38,11 @@ pub(crate) fn same_operands(a: &[i32; 256], b: &[i32; 256], height: usize) -> bo
 }
 
 /// Puts so many operands in place of others. With none, as where an iteration begins, there is nothing to do.
-pub(crate) fn copy_operands(from: &[i32; 256], height: usize, to: &mut [i32; 256])
+pub(crate) fn copy_operands(
+    from: &[i32; OPERAND_LIMIT],
+    height: usize,
+    to: &mut [i32; OPERAND_LIMIT],
+)
     requires { height ≤ 256 }
     ensures { tops to.new height ≡ tops from.now height }
 {

@@ -144,8 +144,8 @@ fn is_named(tables: &Tables, word: Word, spot: Spot) -> bool
         Word::Const(_) => true,
         Word::Priv(k) => k < privates(tables, spot.function),
         Word::SetPriv(k) => k < privates(tables, spot.function),
-        Word::Glob(a) => a < tables.globals + 64,
-        Word::SetGlob(a) => a < tables.globals + 64,
+        Word::Glob(a) => a < tables.globals + CELL_LIMIT as u32,
+        Word::SetGlob(a) => a < tables.globals + CELL_LIMIT as u32,
         Word::Elem(array, _) => is_array(tables.globals, array),
         Word::SetElem(array, _) => is_array(tables.globals, array),
         Word::Dup => true,
@@ -420,12 +420,12 @@ fn entered(word: Word, first: u32) -> Option<usize>
 }
 
 // The place of the one `enter` of each region from `first` on, or NOWHERE; false where one has two.
-fn find_enters(words: &[Word], first: u32, places: &mut [u32; 256]) -> bool
+fn find_enters(words: &[Word], first: u32, places: &mut [u32; WALK]) -> bool
     requires { length words.now < 2 ^ 32 }
     ensures found { IsTrue result → AreOnlyEnters words.now NOWHERE (length words.now) first places.new }
     ensures twice { IsTrue result ⊎ HasTwoEnters words.now }
 {
-    *places = [NOWHERE; 256];
+    *places = [NOWHERE; WALK];
     for place in 0..words.len() as u32 {
         let word = word_in(words, place);
         match entered(word, first) {
@@ -467,7 +467,7 @@ fn begins_at(tables: &Tables, index: u32, region: &Region, enter: Spot) -> bool
 }
 
 // The same for regions from `index` on where the table doesn't reach that far; false where one has two.
-fn reach(words: &[Word], index: u32, first: &mut u32, places: &mut [u32; 256]) -> bool
+fn reach(words: &[Word], index: u32, first: &mut u32, places: &mut [u32; WALK]) -> bool
     requires few { length words.now < 2 ^ 32 }
     requires low { first.old ≤ index }
     requires found { AreOnlyEnters words.now NOWHERE (length words.now) first.old places.old }
@@ -486,7 +486,7 @@ fn regions_begin(words: &[Word], tables: &Tables) -> bool
     requires words { EachWord (code_of words.now tables.now) (IsFine (tables_of tables.now)) }
     ensures { IsTrue result ↔ EachRegion (code_of words.now tables.now) (BeginsRegion (code_of words.now tables.now)) }
 {
-    let mut places = [NOWHERE; 256];
+    let mut places = [NOWHERE; WALK];
     let mut first = 0;
     if !find_enters(words, first, &mut places) {
         return false;
