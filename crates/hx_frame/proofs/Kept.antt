@@ -19,9 +19,9 @@ use Rattle.hx_frame.specs.declared.frame.Tag.{Tag}
 use Rattle.hx_frame.specs.Automaton.{asked_as, ask_in}
 use Rattle.hx_frame.specs.declared.action.Stop.TheVariants.{NeedHead}
 use Rattle.hx_frame.specs.declared.frame.Capacities.{Capacities}
-use Rattle.hx_frame.specs.Action.{need_of, stop_for}
-use Rattle.hx_frame.specs.Frame.{frame_of, Keeps, TellsAction, stop_of}
-use Rattle.hx_frame.specs.Words.{RanTo, WellAsked}
+use Rattle.hx_frame.specs.Action.{action_in, need_of, stop_for}
+use Rattle.hx_frame.specs.Frame.{frame_of, Keeps, TellsNeed, WellAsked, stop_of}
+use Rattle.hx_frame.specs.Words.{RanTo}
 use Rattle.hx_frame.proofs.Stretches.{asks_as}
 
 -- what holds of an Ok, where there is one
@@ -34,7 +34,7 @@ on_ok (Err b) P h e = absurd (false≢true e)
 -- a frame that has gone nowhere keeps it
 pub begun_keeps : (code : CodeView) (tag : Tag) (start here : LocalView) (marks writes : Table) → FitsLocal code start → here ≡ start → marks ≡ [] → writes ≡ [] → Keeps code tag start here marks writes Nothing
 begun_keeps code tag start here marks writes fits e m w =
-    let begun : Keeps code tag start start [] [] Nothing = record { start_fits = fits; here_fits = fits; is_true = begins_true (ask_in code) tag.worker tag.iteration tag.attempt start; action = tt } in
+    let begun : Keeps code tag start start [] [] Nothing = record { start_fits = fits; here_fits = fits; is_true = begins_true (ask_in code) tag.worker tag.iteration tag.attempt start; tells = tt } in
     subst (λ l. Keeps code tag start l marks writes Nothing) (sym e) (subst (λ t. Keeps code tag start start t writes Nothing) (sym m) (subst (λ t. Keeps code tag start start [] t Nothing) (sym w) begun))
 
 -- ---- run
@@ -74,83 +74,51 @@ module _ (code : CodeView) (tag : Tag) (start here : LocalView) (marks writes : 
         start_fits = keeps.start_fits;
         here_fits = ran.fits;
         is_true = subst (IsTrue (ask_in code)) (sym (ran_is limit to new free ran)) (stretch_true (ask_in code) limit before keeps.is_true);
-        action = ran.action;
+        tells = ran.tells;
       }
 
 pub not_held : (need : Need) → (need ≡ Held → ⊥) → is_held (need_of need) ≡ false
 not_held Nothing n = refl
-not_held (ForLoad a) n = refl
-not_held (ForStore a v) n = refl
-not_held (ForHead action) n = refl
+not_held (ForLoad a next) n = refl
+not_held (ForStore a v next) n = refl
+not_held (ForHead ask next) n = refl
 not_held Held n = absurd (n refl)
 
-pub tells_stop : (code : CodeView) (capacities : Capacities) (tag : Tag) (start here : LocalView) (marks writes : Table) (need : Need) → TellsAction code here need → stop_for need ≡ stop_of (record { code = code; capacities = capacities; frame = frame_of tag start here marks writes need })
+pub tells_stop : (code : CodeView) (capacities : Capacities) (tag : Tag) (start here : LocalView) (marks writes : Table) (need : Need) → TellsNeed code here need → stop_for need ≡ stop_of (record { code = code; capacities = capacities; frame = frame_of tag start here marks writes need })
 tells_stop code capacities tag start here marks writes Nothing t = refl
-tells_stop code capacities tag start here marks writes (ForLoad a) t = refl
-tells_stop code capacities tag start here marks writes (ForStore a v) t = refl
-tells_stop code capacities tag start here marks writes (ForHead action) t = ap NeedHead t
+tells_stop code capacities tag start here marks writes (ForLoad a next) t = refl
+tells_stop code capacities tag start here marks writes (ForStore a v next) t = refl
+tells_stop code capacities tag start here marks writes (ForHead ask next) t = sym (ap (λ w. NeedHead (action_in w)) t.asks)
 tells_stop code capacities tag start here marks writes Held t = refl
 
 -- ---- a load
 
-load_word : (ask : Ask) (m : LocalView) (a : ℕ) (q : ℤ → LocalView) → asked_as ask m ≡ Asked.Loads a q → ask ≡ Loads a
-load_word (Loads b) m a q e = let same : b ≡ a = cc in ap Loads same
-load_word Goes m a q e = absurd (cc)
-load_word (Stores b v) m a q e = absurd (cc)
-load_word (Prints output at) m a q e = absurd (cc)
-load_word (Faults fault) m a q e = absurd (cc)
-load_word (Calls g at) m a q e = absurd (cc)
-load_word (Enters r t) m a q e = absurd (cc)
-load_word Turns m a q e = absurd (cc)
-load_word Leaves m a q e = absurd (cc)
-load_word (Returns v) m a q e = absurd (cc)
-
-module _ (code : CodeView) (tag : Tag) (start here : LocalView) (marks writes : Table) (a : ℕ) (v : ℤ) (ask : Ask) (next : Next) (keeps : Keeps code tag start here marks writes (ForLoad a)) (well : WellAsked code here ask next) where
+module _ (code : CodeView) (tag : Tag) (start here : LocalView) (marks writes : Table) (a : ℕ) (v : ℤ) (next : Next) (keeps : Keeps code tag start here marks writes (ForLoad a next)) where
   abbrev load_before : Frame LocalView
-  load_before = frame_of tag start here marks writes (ForLoad a)
-
-  is_load : ask ≡ Loads a
-  is_load = let n = keeps.is_true.needed in load_word ask (goes_on next here) a n.0 (sym (asks_as code here ask (goes_on next here) well.asks) ∙ n.1)
+  load_before = frame_of tag start here marks writes (ForLoad a next)
 
   load_asked : ask_in code here ≡ Asked.Loads a (λ x. on_top x (goes_on next here))
-  load_asked = asks_as code here ask (goes_on next here) well.asks ∙ ap (λ k. asked_as k (goes_on next here)) is_load
+  load_asked = asks_as code here (Loads a) (goes_on next here) keeps.tells.asks
 
   pub loaded_keeps : (to : LocalView) (table : Table) → to ≡ on_top v (goes_on next here) → table ≡ put marks a v → Keeps code tag start to table writes Nothing
   loaded_keeps to table e t =
       let n = keeps.is_true.needed in
       let there = on_top v (goes_on next here) in
       let tracked = loads_true (ask_in code) load_before a v (λ x. on_top x (goes_on next here)) load_asked n.2 n.3 keeps.is_true.tracked in
-      let fits : LocalWell code (Loads a) (goes_on next here) = subst (λ k. LocalWell code k (goes_on next here)) is_load well.well in
-      let kept : Keeps code tag start there (put marks a v) writes Nothing = record { start_fits = keeps.start_fits; here_fits = fits.1 v; is_true = record { tracked = record { by = tracked.by }; needed = tt }; action = tt } in
+      let kept : Keeps code tag start there (put marks a v) writes Nothing = record { start_fits = keeps.start_fits; here_fits = keeps.tells.well.1 v; is_true = record { tracked = record { by = tracked.by }; needed = tt }; tells = tt } in
       subst (λ x. Keeps code tag start to x writes Nothing) (sym t) (subst (λ x. Keeps code tag start x (put marks a v) writes Nothing) (sym e) kept)
 
 -- ---- a store
 
-store_word : (ask : Ask) (m : LocalView) (a : ℕ) (v : ℤ) (q : LocalView) → asked_as ask m ≡ Asked.Stores a v q → ask ≡ Stores a v
-store_word (Stores b u) m a v q e = let word : b ≡ a = cc in let value : u ≡ v = cc in ap (λ x. Stores x u) word ∙ ap (Stores a) value
-store_word Goes m a v q e = absurd (cc)
-store_word (Loads b) m a v q e = absurd (cc)
-store_word (Prints output at) m a v q e = absurd (cc)
-store_word (Faults fault) m a v q e = absurd (cc)
-store_word (Calls g at) m a v q e = absurd (cc)
-store_word (Enters r t) m a v q e = absurd (cc)
-store_word Turns m a v q e = absurd (cc)
-store_word Leaves m a v q e = absurd (cc)
-store_word (Returns u) m a v q e = absurd (cc)
-
-module _ (code : CodeView) (tag : Tag) (start here : LocalView) (marks writes : Table) (a : ℕ) (v : ℤ) (ask : Ask) (next : Next) (keeps : Keeps code tag start here marks writes (ForStore a v)) (well : WellAsked code here ask next) where
+module _ (code : CodeView) (tag : Tag) (start here : LocalView) (marks writes : Table) (a : ℕ) (v : ℤ) (next : Next) (keeps : Keeps code tag start here marks writes (ForStore a v next)) where
   abbrev store_before : Frame LocalView
-  store_before = frame_of tag start here marks writes (ForStore a v)
-
-  is_store : ask ≡ Stores a v
-  is_store = let n = keeps.is_true.needed in store_word ask (goes_on next here) a v n.0 (sym (asks_as code here ask (goes_on next here) well.asks) ∙ n.1)
+  store_before = frame_of tag start here marks writes (ForStore a v next)
 
   store_asked : ask_in code here ≡ Asked.Stores a v (goes_on next here)
-  store_asked = asks_as code here ask (goes_on next here) well.asks ∙ ap (λ k. asked_as k (goes_on next here)) is_store
+  store_asked = asks_as code here (Stores a v) (goes_on next here) keeps.tells.asks
 
   pub stored_keeps : (to : LocalView) (table : Table) → to ≡ goes_on next here → table ≡ put writes a v → Keeps code tag start to marks table Nothing
   stored_keeps to table e t =
       let tracked = stores_true (ask_in code) store_before a v (goes_on next here) store_asked keeps.is_true.tracked in
-      let fits : LocalWell code (Stores a v) (goes_on next here) = subst (λ k. LocalWell code k (goes_on next here)) is_store well.well in
-      let kept : Keeps code tag start (goes_on next here) marks (put writes a v) Nothing = record { start_fits = keeps.start_fits; here_fits = fits.1; is_true = record { tracked = record { by = tracked.by }; needed = tt }; action = tt } in
+      let kept : Keeps code tag start (goes_on next here) marks (put writes a v) Nothing = record { start_fits = keeps.start_fits; here_fits = keeps.tells.well.1; is_true = record { tracked = record { by = tracked.by }; needed = tt }; tells = tt } in
       subst (λ x. Keeps code tag start to marks x Nothing) (sym t) (subst (λ x. Keeps code tag start x marks (put writes a v) Nothing) (sym e) kept)

@@ -11,7 +11,6 @@ use Rattle.hx_speculation.specs.Iteration.{Ask as Asked}
 use Rattle.hx_speculation.specs.Frame.{Frame, words, word, reads, goes_to, stops_for, Need as Needed}
 use Rattle.hx_speculation.specs.View.{or_first}
 use Rattle.hx_frame.specs.Automaton.{asked_as, asked_by, ask_in}
-use Rattle.hx_frame.specs.Words.{IsStop, StopsThere, WellAsked}
 
 pub asks_as : (code : CodeView) (l : LocalView) (ask : Ask) (m : LocalView) → asks_of code l ≡ LocalAsks ask m → ask_in code l ≡ asked_as ask m
 asks_as code l ask m e = ap (asked_by l) e
@@ -72,24 +71,6 @@ head_word code l m (Enters r t) k f e g lo st ca = word_by code k l f _ (asks_as
 head_word code l m Turns k f e g lo st ca = word_by code k l f _ (asks_as code l Turns m e)
 head_word code l m Leaves k f e g lo st ca = word_by code k l f _ (asks_as code l Leaves m e)
 head_word code l m (Returns v) k f e g lo st ca = word_by code k l f _ (asks_as code l (Returns v) m e)
-
--- one word that is no stop can't be done where there is one
-pub no_word : (code : CodeView) (n : ℕ) (l m : LocalView) → n ≡ 1 → StopsThere code l → LocalGoing code n l m → ⊥
-no_word code zero l m one stops g = absurd (omega (arith, one))
-no_word code (suc zero) l m one stops g =
-    let w = g.went in
-    let here : ask_in code l ≡ Asked.Goes m = asks_as code l Goes m (subst (λ x. asks_of code x ≡ LocalAsks Goes m) (sym w.1) w.2) in
-    subst IsStop here stops
-no_word code (suc (suc n)) l m one stops g = absurd (omega (arith, one))
-
--- a stretch of no words stays
-pub stays : (code : CodeView) (n : ℕ) (l : LocalView) (ask : Ask) (next : Next) (m : LocalView) → n < 1 → LocalStretch code n l ask next m → m ≡ l
-stays code zero l ask next m lt s = sym s.going.went
-stays code (suc n) l ask next m lt s = absurd (omega (arith, lt))
-
-pub asked_here : (code : CodeView) (n : ℕ) (l : LocalView) (ask : Ask) (next : Next) (m : LocalView) → n < 1 → LocalStretch code n l ask next m → WellAsked code l ask next
-asked_here code n l ask next m lt s =
-    subst (λ x. WellAsked code x ask next) (stays code n l ask next m lt s) (record { asks = s.asks; well = s.well; may = s.may })
 
 -- ---- words as they are counted
 

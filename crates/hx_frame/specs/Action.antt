@@ -32,15 +32,15 @@ action_in (LocalAsks ask l) = action_for ask
 -- the stop that tells what is needed
 abbrev pub stop_for : Need → Stop
 stop_for Nothing = Limit
-stop_for (ForLoad a) = NeedLoad a
-stop_for (ForStore a v) = NeedStore a v
-stop_for (ForHead action) = NeedHead action
+stop_for (ForLoad a next) = NeedLoad a
+stop_for (ForStore a v next) = NeedStore a v
+stop_for (ForHead ask next) = NeedHead (action_for ask)
 stop_for Held = NeedHead None
 
 -- what is needed, in the words of the definition
 abbrev pub need_of : Need → Needed
 need_of Nothing = Needed.Nothing
-need_of (ForLoad a) = Needed.ForLoad a
-need_of (ForStore a v) = Needed.ForStore a v
-need_of (ForHead action) = Needed.ForHead
+need_of (ForLoad a next) = Needed.ForLoad a
+need_of (ForStore a v next) = Needed.ForStore a v
+need_of (ForHead ask next) = Needed.ForHead
 need_of Held = Needed.Held

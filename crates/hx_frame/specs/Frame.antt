@@ -3,9 +3,10 @@ use Rattle.std.specs.Prelude.{◌≡◌}
 use Rattle.hx_marks.specs.Table.{Table}
 use Rattle.hx_code.specs.Code.{CodeView}
 use Rattle.hx_code.specs.declared.word.Ask.{Ask}
-use Rattle.hx_code.specs.declared.word.Ask.TheVariants.{Goes}
+use Rattle.hx_code.specs.declared.word.Ask.TheVariants.{Goes, Loads, Stores}
+use Rattle.hx_code.specs.declared.word.Next.{Next}
 use Rattle.hx_code.specs.Local.{LocalView, LocalWant, LocalAsks, LocalStuck, asks_of}
-use Rattle.hx_code.specs.Fits.{FitsLocal}
+use Rattle.hx_code.specs.Fits.{FitsLocal, LocalWell, goes_on, MayGoOn}
 use Rattle.hx_speculation.specs.Frame.{Frame, Need as Needed, IsTrue}
 use Rattle.hx_frame.specs.declared.action.Action.{Action}
 use Rattle.hx_frame.specs.declared.action.Action.TheVariants.{None}
@@ -59,17 +60,23 @@ stop_needed action Needed.Held = NeedHead None
 abbrev pub stop_of : FrameView → Stop
 stop_of f = stop_needed (action_of f) f.frame.need
 
--- an action that is waited with is what the state asks
-abbrev pub TellsAction : CodeView → LocalView → Need → Type 0
-TellsAction code l (ForHead action) = action ≡ action_in (asks_of code l)
-TellsAction code l Nothing = Unit {0}
-TellsAction code l (ForLoad a) = Unit {0}
-TellsAction code l (ForStore a v) = Unit {0}
-TellsAction code l Held = Unit {0}
+-- the next word asks this, and goes on there once it has it
+pub record WellAsked (code : CodeView) (l : LocalView) (ask : Ask) (next : Next) : Type 0 where
+  pub asks : asks_of code l ≡ LocalAsks ask (goes_on next l)
+  pub well : LocalWell code ask (goes_on next l)
+  pub may : MayGoOn next l.calls
+
+-- what is needed is what the next word asks
+abbrev pub TellsNeed : CodeView → LocalView → Need → Type 0
+TellsNeed code l Nothing = Unit {0}
+TellsNeed code l (ForLoad a next) = WellAsked code l (Loads a) next
+TellsNeed code l (ForStore a v next) = WellAsked code l (Stores a v) next
+TellsNeed code l (ForHead ask next) = WellAsked code l ask next
+TellsNeed code l Held = Unit {0}
 
 -- what every frame keeps
 pub record Keeps (code : CodeView) (tag : Tag) (start here : LocalView) (marks writes : Table) (need : Need) : Type 0 where
   pub start_fits : FitsLocal code start
   pub here_fits : FitsLocal code here
   pub is_true : IsTrue (ask_in code) (frame_of tag start here marks writes need)
-  pub action : TellsAction code here need
+  pub tells : TellsNeed code here need

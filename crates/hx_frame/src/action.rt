@@ -3,7 +3,7 @@
 ghost use Rattle.std.specs.Prelude.{◌≡◌};
 ghost use Rattle.hx_frame.specs.Action.{action_for, stop_for};
 
-use hx_code::word::{Ask, Output};
+use hx_code::word::{Ask, Next, Output};
 use hx_tree::outcome::Fault;
 
 /// What an iteration waits with until it is the head, since it can't be undone.
@@ -38,13 +38,13 @@ pub enum Stop {
     Limit,
 }
 
-/// What the last stretch stopped for, and was not given yet.
+/// What the last stretch stopped for, and was not given yet, and where the word goes on that needs it.
 #[derive(Clone, Copy)]
 pub(crate) enum Need {
     Nothing,
-    ForLoad(u32),
-    ForStore(u32, i32),
-    ForHead(Action),
+    ForLoad(u32, Next),
+    ForStore(u32, i32, Next),
+    ForHead(Ask, Next),
     Held,
 }
 
@@ -55,9 +55,9 @@ impl Need {
     {
         match self {
             Need::Nothing => Stop::Limit,
-            Need::ForLoad(word) => Stop::NeedLoad(word),
-            Need::ForStore(word, value) => Stop::NeedStore(word, value),
-            Need::ForHead(action) => Stop::NeedHead(action),
+            Need::ForLoad(word, _) => Stop::NeedLoad(word),
+            Need::ForStore(word, value, _) => Stop::NeedStore(word, value),
+            Need::ForHead(ask, _) => Stop::NeedHead(waits_with(ask)),
             Need::Held => Stop::NeedHead(Action::None),
         }
     }

@@ -7,8 +7,8 @@ ghost use Rattle.hx_speculation.specs.Frame.{IsTrue, begins, stretch, loaded, st
 ghost use Rattle.hx_frame.specs.Automaton.{ask_in};
 ghost use Rattle.hx_frame.specs.Frame.{FrameView, stop_of, action_of, waiting_ask};
 
-use crate::action::{Action, Need, Stop};
-use crate::words::{asked, run_words};
+use crate::action::{Action, Need, Stop, waits_with};
+use crate::words::run_words;
 use hx_buffer::WriteBuffer;
 use hx_code::code::Code;
 use hx_code::local::Local;
@@ -126,11 +126,10 @@ impl<'c> Frame<'c> {
     pub fn loaded(&mut self, value: i32)
         ensures { self.new ≡ record self.old { frame = loaded (ask_in self.old.code) self.old.capacities.marks value self.old.frame } }
     {
-        if let Need::ForLoad(word) = self.need {
+        if let Need::ForLoad(word, next) = self.need {
             if self.marks.mark(word, value).is_ok() {
                 let code = self.code;
-                let done = asked(code, &mut self.here);
-                self.here.load(code, done.next, value);
+                self.here.load(code, next, value);
                 self.need = Need::Nothing;
             }
         }
@@ -141,11 +140,9 @@ impl<'c> Frame<'c> {
     pub fn stored(&mut self)
         ensures { self.new ≡ record self.old { frame = stored (ask_in self.old.code) self.old.capacities.buffer self.old.frame } }
     {
-        if let Need::ForStore(word, value) = self.need {
+        if let Need::ForStore(word, value, next) = self.need {
             if self.writes.put(word, value).is_ok() {
-                let code = self.code;
-                let done = asked(code, &mut self.here);
-                self.here.go_on(done.next);
+                self.here.go_on(next);
                 self.need = Need::Nothing;
             }
         }
@@ -157,7 +154,7 @@ impl<'c> Frame<'c> {
         ensures { self.new ≡ record self.old { frame = holds self.old.frame } }
     {
         match self.need {
-            Need::ForLoad(_) | Need::ForStore(_, _) => self.need = Need::Held,
+            Need::ForLoad(_, _) | Need::ForStore(_, _, _) => self.need = Need::Held,
             _ => {}
         }
     }
@@ -167,13 +164,8 @@ impl<'c> Frame<'c> {
     pub fn advance(&mut self)
         ensures { self.new ≡ record self.old { frame = advanced (ask_in self.old.code) self.old.frame } }
     {
-        match self.need {
-            Need::ForHead(Action::Print(_)) | Need::ForHead(Action::Emit(_)) => {
-                let code = self.code;
-                let done = asked(code, &mut self.here);
-                self.here.go_on(done.next);
-            }
-            _ => {}
+        if let Need::ForHead(Ask::Prints(_, _), next) = self.need {
+            self.here.go_on(next);
         }
         self.start.copy_from(&self.here);
         self.marks.clear();
@@ -235,16 +227,11 @@ impl<'c> Frame<'c> {
     }
 
     /// What the word asks that it waits with: of a print also its place, which `action` doesn't tell. `Goes` where it waits with nothing.
-    /// Nothing changes.
-    pub fn waits_with(&mut self) -> Ask
-        ensures ask { result ≡ waiting_ask self.old }
-        ensures same { self.new ≡ self.old }
+    pub fn waits_with(&self) -> Ask
+        ensures { result ≡ waiting_ask self.now }
     {
         match self.need {
-            Need::ForHead(_) => {
-                let code = self.code;
-                asked(code, &mut self.here).ask
-            }
+            Need::ForHead(ask, _) => ask,
             _ => Ask::Goes,
         }
     }
@@ -254,7 +241,7 @@ impl<'c> Frame<'c> {
         ensures { result ≡ action_of self.now }
     {
         match self.need {
-            Need::ForHead(action) => action,
+            Need::ForHead(ask, _) => waits_with(ask),
             _ => Action::None,
         }
     }

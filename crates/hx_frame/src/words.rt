@@ -1,16 +1,13 @@
 // The words of an iteration, as far as it can go by itself.
 
-ghost use Rattle.std.specs.Prelude.{◌≡◌, ◌≢◌};
-ghost use Rattle.hx_code.specs.Local.{asks_of, LocalAsks};
-ghost use Rattle.hx_code.specs.Fits.{FitsLocal, LocalWell, goes_on, MayGoOn};
+ghost use Rattle.std.specs.Prelude.{◌≡◌};
+ghost use Rattle.hx_code.specs.Fits.{FitsLocal};
 ghost use Rattle.hx_marks.specs.Table.{look};
 ghost use Rattle.hx_speculation.specs.View.{or_first};
-ghost use Rattle.hx_frame.specs.Automaton.{ask_in};
-ghost use Rattle.hx_frame.specs.Words.{RanTo, StopsThere, WellAsked};
+ghost use Rattle.hx_frame.specs.Words.{RanTo};
 
-use crate::action::{Need, waits_with};
+use crate::action::Need;
 use hx_buffer::WriteBuffer;
-use hx_code::Stretched;
 use hx_code::code::Code;
 use hx_code::local::Local;
 use hx_code::word::Ask;
@@ -44,25 +41,15 @@ pub(crate) fn run_words(
         match done.ask {
             Ask::Goes => {}
             Ask::Loads(word) => match known(marks, writes, word) {
-                None => return Need::ForLoad(word),
+                None => return Need::ForLoad(word, done.next),
                 Some(value) => {
                     here.load(code, done.next, value);
                     words += 1;
                 }
             },
-            Ask::Stores(word, value) => return Need::ForStore(word, value),
-            ask => return Need::ForHead(waits_with(ask)),
+            Ask::Stores(word, value) => return Need::ForStore(word, value, done.next),
+            ask => return Need::ForHead(ask, done.next),
         }
     }
     Need::Nothing
-}
-
-/// What the next word asks, of one that asks something; nothing changes.
-pub(crate) fn asked(code: &Code, here: &mut Local) -> Stretched
-    requires fits { FitsLocal code.now here.old }
-    requires stops { StopsThere code.now here.old }
-    ensures same { here.new ≡ here.old }
-    ensures well { WellAsked code.now here.old result.ask result.next }
-{
-    here.stretch(code, 1)
 }

@@ -130,16 +130,34 @@ impl Marks {
     }
 }
 
+// Whether words are the same. They are few, and comparing them in groups would cost more than one by one.
 fn same_words(a: &[u32], b: &[u32]) -> bool
     ensures { IsTrue result ↔ (a.now ≡ b.now) }
 {
-    a == b
+    if a.len() != b.len() {
+        return false;
+    }
+    for k in 0..a.len() {
+        if a[k] != b[k] {
+            return false;
+        }
+    }
+    true
 }
 
+// Whether values are the same, one by one as the words.
 fn same_values(a: &[i32], b: &[i32]) -> bool
     ensures { IsTrue result ↔ (a.now ≡ b.now) }
 {
-    a == b
+    if a.len() != b.len() {
+        return false;
+    }
+    for k in 0..a.len() {
+        if a[k] != b[k] {
+            return false;
+        }
+    }
+    true
 }
 
 // Puts an item at a place of a vector that has room for it.

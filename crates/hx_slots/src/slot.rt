@@ -16,10 +16,18 @@ use std::marker::Model;
 
 /// An active iteration: its worker, its attempt, where that begins, and what it has read and written since. Contracts see that, and how
 /// many words its tables may have.
+///
+/// Inside, only worker and attempt stand in the slot itself, so that it is looked for and moved without the rest.
 #[derive(Drop)]
 pub struct Slot {
     worker: u32,
     attempt: u64,
+    kept: Box<Kept>,
+}
+
+// Where an attempt begins, and what it has read and written since.
+#[derive(Drop)]
+struct Kept {
     start: Local,
     marks: Marks,
     buffer: WriteBuffer,
@@ -30,7 +38,7 @@ impl Model for Slot {
 
     ghost Value = { SlotView };
 
-    ghost view = { λ s. record { slot = record { worker = s.worker; attempt = s.attempt; start = s.start; marks = s.marks.entries; buffer = s.buffer.entries }; rooms = record { marks = s.marks.capacity; buffer = s.buffer.capacity } } };
+    ghost view = { λ s. record { slot = record { worker = s.worker; attempt = s.attempt; start = s.kept.value.start; marks = s.kept.value.marks.entries; buffer = s.kept.value.buffer.entries }; rooms = record { marks = s.kept.value.marks.capacity; buffer = s.kept.value.buffer.capacity } } };
 }
 
 /// What a load comes to.
@@ -56,12 +64,15 @@ impl Slot {
     ) -> Result<Slot, AllocError>
         ensures { IfOk result (λ s. s.rooms ≡ rooms_for marks buffer) }
     {
-        Ok(Slot {
-            worker: 0,
-            attempt: 0,
+        let kept = Kept {
             start: Local::new(alloc, code)?,
             marks: Marks::with_capacity(alloc, marks as usize)?,
             buffer: WriteBuffer::with_capacity(alloc, buffer as usize)?,
+        };
+        Ok(Slot {
+            worker: 0,
+            attempt: 0,
+            kept: Box::new(alloc, kept)?,
         })
     }
 
@@ -78,7 +89,7 @@ impl Slot {
     pub(crate) fn renew(&mut self, start: &Local)
         ensures { self.new ≡ record self.old { slot = record self.old.slot { start = start.now; marks = []; buffer = [] } } }
     {
-        self.start.copy_from(start);
+        self.kept.start.copy_from(start);
         self.forget();
     }
 
@@ -86,8 +97,8 @@ impl Slot {
     fn forget(&mut self)
         ensures { self.new ≡ record self.old { slot = record self.old.slot { marks = []; buffer = [] } } }
     {
-        self.marks.clear();
-        self.buffer.clear();
+        self.kept.marks.clear();
+        self.kept.buffer.clear();
     }
 
     /// Its worker.
@@ -108,21 +119,21 @@ impl Slot {
     pub fn start(&self) -> &Local
         ensures { result.now ≡ self.now.slot.start }
     {
-        &self.start
+        &self.kept.start
     }
 
     /// What it has read.
     pub fn marks(&self) -> &Marks
         ensures { result.now.entries ≡ self.now.slot.marks }
     {
-        &self.marks
+        &self.kept.marks
     }
 
     /// What it has written.
     pub fn buffer(&self) -> &WriteBuffer
         ensures { result.now.entries ≡ self.now.slot.buffer }
     {
-        &self.buffer
+        &self.kept.buffer
     }
 
     /// Whether it is this attempt of the worker.
@@ -136,7 +147,7 @@ impl Slot {
     pub(crate) fn seen_past(&self, word: u32, seen: i32) -> i32
         ensures { result ≡ or_else (look self.now.slot.buffer word) seen }
     {
-        match self.buffer.get(word) {
+        match self.kept.buffer.get(word) {
             Some(value) => value,
             None => seen,
         }
@@ -147,13 +158,13 @@ impl Slot {
         ensures found { found_of result ≡ finds_own self.old.rooms.marks word seen self.old.slot (look self.old.slot.buffer word) }
         ensures marked { self.new ≡ marked_by word result self.old }
     {
-        if let Some(value) = self.buffer.get(word) {
+        if let Some(value) = self.kept.buffer.get(word) {
             return Found::Known(value);
         }
-        if let Some(value) = self.marks.get(word) {
+        if let Some(value) = self.kept.marks.get(word) {
             return Found::Known(value);
         }
-        match self.marks.mark(word, seen) {
+        match self.kept.marks.mark(word, seen) {
             Ok(()) => Found::New(seen),
             Err(_) => Found::Full,
         }
@@ -163,7 +174,7 @@ impl Slot {
     pub(crate) fn is_full(&self, capacity: u32, word: u32) -> bool
         ensures { result ≡ is_full capacity self.now.slot.buffer word }
     {
-        !self.buffer.get(word).is_some() && capacity as usize <= self.buffer.len()
+        !self.kept.buffer.get(word).is_some() && capacity as usize <= self.kept.buffer.len()
     }
 
     /// Writes a word that there is room for.
@@ -171,7 +182,7 @@ impl Slot {
         requires { HasRoomFor word self.old }
         ensures { self.new ≡ record self.old { slot = record self.old.slot { buffer = put self.old.slot.buffer word value } } }
     {
-        match self.buffer.put(word, value) {
+        match self.kept.buffer.put(word, value) {
             Ok(()) => {}
             Err(_) => unreachable!(),
         }
@@ -181,7 +192,7 @@ impl Slot {
     pub(crate) fn is_violated(&self, word: u32, seen: i32) -> bool
         ensures { result ≡ is_violated word seen self.now.slot }
     {
-        match self.marks.get(word) {
+        match self.kept.marks.get(word) {
             Some(value) => value != seen,
             None => false,
         }
@@ -208,6 +219,6 @@ impl Slot {
         ensures store { store.new ≡ overlay self.old.slot.buffer store.old }
         ensures empty { self.new ≡ record self.old { slot = record self.old.slot { buffer = [] } } }
     {
-        self.buffer.drain_into(store);
+        self.kept.buffer.drain_into(store);
     }
 }

@@ -1,18 +1,10 @@
-//! The tests of the stages: each file is named like the stage that it tests, and all of them may use every crate.
+//! The tests of the stages from source to code, and of tables: each file is named like the stage that it tests.
 #![tactic(auto)]
 
-#[cfg(test)]
-mod boards;
 #[cfg(test)]
 mod checking;
 #[cfg(test)]
 mod codes;
-#[cfg(test)]
-mod fakes;
-#[cfg(test)]
-mod forged;
-#[cfg(test)]
-mod frames;
 #[cfg(test)]
 mod lexing;
 #[cfg(test)]
@@ -21,14 +13,6 @@ mod listings;
 mod nodes;
 #[cfg(test)]
 mod parsing;
-#[cfg(test)]
-mod pools;
-#[cfg(test)]
-mod refined;
-#[cfg(test)]
-mod regions;
-#[cfg(test)]
-mod schedules;
 #[cfg(test)]
 mod tables;
 #[cfg(test)]

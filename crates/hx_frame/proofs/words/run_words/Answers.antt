@@ -6,7 +6,7 @@ use Rattle.hx_code.specs.Fits.{FitsLocal, LocalWell, goes_on}
 use Rattle.hx_marks.specs.Table.{look}
 use Rattle.hx_speculation.specs.Frame.{Need as Needed}
 use Rattle.hx_speculation.specs.View.{or_first}
-use Rattle.hx_frame.specs.Action.{action_in}
+use Rattle.hx_frame.specs.Frame.{WellAsked}
 use Rattle.hx_frame.proofs.Stretches.{LeftToDo, RanFor, stretch_as, isnt_goes, left_after, left_known, stopped, unknown_word, write_word, head_word}
 use Rattle.hx_frame.proofs.words.run_words.Goals as goal
 
@@ -28,7 +28,7 @@ returns-in-None c =
     record {
       ran = stopped c.args.code.now _ _ _ _ c.loop-words.words _ _ _ i.ran t.going.went c.stretch-done.ensures.words lt (Needed.ForLoad c.in-Loads.word) (λ f em ew. unknown_word c.args.code.now _ _ f em ew _ _ c.in-Loads.word _ t.asks none);
       fits = t.going.fits;
-      action = tt;
+      tells = record { asks = t.asks; well = t.well; may = t.may };
     }
 
 -- src/words.rt:41:5
@@ -58,7 +58,7 @@ returns-in-Stores c =
     record {
       ran = subst (λ v. RanFor c.args.code.now c.args.marks.now.entries c.args.writes.now.entries c.args.limit c.args.here.now c.stretch-done.new.self (Needed.ForStore c.in-Stores.word v)) (sym same) (stopped c.args.code.now _ _ _ _ c.loop-words.words _ _ _ i.ran t.going.went c.stretch-done.ensures.words lt (Needed.ForStore c.in-Stores.word c.in-Stores.value) (λ f em ew. write_word c.args.code.now _ _ c.in-Stores.word c.in-Stores.value _ f t.asks));
       fits = t.going.fits;
-      action = tt;
+      tells = subst (λ v. WellAsked c.args.code.now c.stretch-done.new.self (Stores c.in-Stores.word v) c.stretch-done.result.next) (sym same) (record { asks = t.asks; well = t.well; may = t.may });
     }
 
 -- src/words.rt:54:20
@@ -71,5 +71,5 @@ returns-in_default c =
     record {
       ran = stopped c.args.code.now _ _ _ _ c.loop-words.words _ _ _ i.ran t.going.went c.stretch-done.ensures.words lt Needed.ForHead (λ f em ew. head_word c.args.code.now _ _ c.stretch-done.result.ask _ f t.asks c.in_default.not-Goes c.in_default.not-Loads c.in_default.not-Stores calls);
       fits = t.going.fits;
-      action = c.waits_with.ensures ∙ ap action_in (sym t.asks);
+      tells = record { asks = t.asks; well = t.well; may = t.may };
     }

@@ -14,8 +14,8 @@ invariant_of-self c =
     let i = c.self.invariant in
     let keeps = subst (Keeps f.code.now f.tag f.start f.here f.marks.entries f.writes.entries) c.in-ForLoad.is i.0 in
     let same : to_z w32 (of_z w32 c.args.value) ≡ c.args.value = search rules in
-    let there : c.load.new.self ≡ on_top c.args.value (goes_on c.asked-done.result.next f.here) = c.load.ensures ∙ ap (λ v. on_top v (goes_on c.asked-done.result.next c.asked-done.new.here)) same ∙ ap (λ l. on_top c.args.value (goes_on c.asked-done.result.next l)) c.asked-done.ensures.same in
+    let there : c.load.new.self ≡ on_top c.args.value (goes_on c.in-ForLoad.next f.here) = c.load.ensures ∙ ap (λ v. on_top v (goes_on c.in-ForLoad.next f.here)) same in
     let told : is_ok c.mark.result ≡ true = sym c.is_ok.ensures.value ∙ c.if-is_ok.true in
     let marked = on_ok _ _ c.mark.ensures.marked told in
     let table : c.mark.new.self.entries ≡ put f.marks.entries c.in-ForLoad.word c.args.value = ap (λ (m : MapView). m.entries) marked ∙ ap (put f.marks.entries c.in-ForLoad.word) same in
-    (loaded_keeps _ _ _ _ _ _ c.in-ForLoad.word c.args.value c.asked-done.result.ask c.asked-done.result.next keeps c.asked-done.ensures.well _ _ there table, ap (λ (m : MapView). m.capacity) marked ∙ i.1, i.2)
+    (loaded_keeps _ _ _ _ _ _ c.in-ForLoad.word c.args.value c.in-ForLoad.next keeps _ _ there table, ap (λ (m : MapView). m.capacity) marked ∙ i.1, i.2)

@@ -19,5 +19,5 @@ returns c =
     record {
       ran = ap (λ z. let v : FrameView = record { code = f.code.now; capacities = f.capacities; frame = z } in v) ran
           ∙ ap (λ (s : FrameView). let v : FrameView = record { code = s.code; capacities = s.capacities; frame = stretch (ask_in s.code) c.args.limit s.frame } in v) c.self.view_is;
-      stop = c.stop.ensures ∙ tells_stop f.code.now f.capacities f.tag f.start c.run_words-need.new.here f.marks.entries f.writes.entries c.run_words-need.result c.run_words-need.ensures.action;
+      stop = c.stop.ensures ∙ tells_stop f.code.now f.capacities f.tag f.start c.run_words-need.new.here f.marks.entries f.writes.entries c.run_words-need.result c.run_words-need.ensures.tells;
     }

@@ -13,8 +13,8 @@ invariant_of-self c =
     let i = c.self.invariant in
     let keeps = subst (Keeps f.code.now f.tag f.start f.here f.marks.entries f.writes.entries) c.in-ForStore.is i.0 in
     let same : to_z w32 (of_z w32 c.in-ForStore.value) ≡ c.in-ForStore.value = search rules in
-    let there : c.go_on.new.self ≡ goes_on c.asked-done.result.next f.here = c.go_on.ensures ∙ ap (goes_on c.asked-done.result.next) c.asked-done.ensures.same in
+    let there : c.go_on.new.self ≡ goes_on c.in-ForStore.next f.here = c.go_on.ensures in
     let told : is_ok c.put.result ≡ true = sym c.is_ok.ensures.value ∙ c.if-is_ok.true in
     let written = on_ok _ _ c.put.ensures.written told in
     let table : c.put.new.self.entries ≡ put f.writes.entries c.in-ForStore.word c.in-ForStore.value = ap (λ (m : MapView). m.entries) written ∙ ap (put f.writes.entries c.in-ForStore.word) same in
-    (stored_keeps _ _ _ _ _ _ c.in-ForStore.word c.in-ForStore.value c.asked-done.result.ask c.asked-done.result.next keeps c.asked-done.ensures.well _ _ there table, i.1, ap (λ (m : MapView). m.capacity) written ∙ i.2)
+    (stored_keeps _ _ _ _ _ _ c.in-ForStore.word c.in-ForStore.value c.in-ForStore.next keeps _ _ there table, i.1, ap (λ (m : MapView). m.capacity) written ∙ i.2)

@@ -1,10 +1,10 @@
 -- The machine at the region has the code that the machine was made of.
 use Rattle.std.proofs.Common.{ap, sym, ◌∙◌}
 use Rattle.hx_word.specs.Plain.{PlainView, one_store}
-use Rattle.hx_tests.proofs.schedules.all_short_of.Goals as goal
+use Rattle.hx_tests_boards.proofs.regions.first_region.Goals as goal
 
-pub all_short_from-requires : goal.all_short_from-requires
-all_short_from-requires g c =
+pub by_itself-requires : goal.by_itself-requires
+by_itself-requires c =
     let is = ap (λ (p : PlainView). p.machine) c.in-Ok.ensures.opening in
     let one = ap one_store is ∙ sym is in
     (c.in-At.ensures c.in-Ok.plain.machine one).4 ∙ ap (λ (p : PlainView). p.code) c.in-Ok.ensures.opening

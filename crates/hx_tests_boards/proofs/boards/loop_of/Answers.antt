@@ -1,7 +1,7 @@
 -- The machine at the region has the code that the machine was made of.
 use Rattle.std.proofs.Common.{ap, sym, ◌∙◌}
 use Rattle.hx_word.specs.Plain.{PlainView, one_store}
-use Rattle.hx_tests.proofs.boards.loop_of.Goals as goal
+use Rattle.hx_tests_boards.proofs.boards.loop_of.Goals as goal
 
 pub replayed-requires : goal.replayed-requires
 replayed-requires c =
