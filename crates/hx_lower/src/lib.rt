@@ -5,13 +5,13 @@ mod assignment;
 mod draft;
 mod error;
 mod expression;
+mod listings;
 mod lowering;
 mod program;
 mod size;
 mod statement;
 mod target;
-mod text;
 
 pub use error::LowerError;
+pub use listings::listing;
 pub use lowering::lower;
-pub use text::listing;

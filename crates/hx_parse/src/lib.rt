@@ -8,8 +8,8 @@ mod expressions;
 mod items;
 mod operators;
 mod parser;
-mod program;
+mod parsing;
 mod statements;
 
 pub use error::ParseError;
-pub use program::parse;
+pub use parsing::parse;

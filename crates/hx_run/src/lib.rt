@@ -3,6 +3,7 @@
 #![tactic(auto)]
 
 mod executing;
+mod inputs;
 mod passing;
 mod reading;
 mod refusal;
@@ -11,13 +12,12 @@ mod showing;
 mod source;
 #[cfg(test)]
 mod tests;
-mod texts;
 
 pub use executing::{Done, Mode, execute, execute_plain};
 pub use hx_pool::{Call, Gate, Point, Unwatched};
+pub use inputs::parse_input;
 pub use reading::read_source;
 pub use refusal::Refusal;
 pub use running::{PlainRan, are_in_range, run, run_plain};
 pub use showing::Tail;
 pub use source::{compile, parse_source};
-pub use texts::parse_input;
