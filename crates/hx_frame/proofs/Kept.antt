@@ -4,23 +4,22 @@ use Rattle.std.specs.Prelude.{if◌then◌else◌, Result, Ok, Err, OnOk}
 use Rattle.std.specs.Result.{is_ok}
 use Rattle.std.proofs.lemmas.Bool.{false≢true}
 use Rattle.hx_marks.specs.Table.{Table, look, put}
-use Rattle.hx_code.specs.declared.word.Ask.{Ask}
-use Rattle.hx_code.specs.declared.word.Ask.TheVariants.{Goes, Loads, Stores, Prints, Faults, Calls, Enters, Turns, Leaves, Returns}
+use Rattle.hx_code.specs.declared.word.Ask.TheVariants.{Loads, Stores}
 use Rattle.hx_code.specs.declared.word.Next.{Next}
 use Rattle.hx_code.specs.Code.{CodeView}
 use Rattle.hx_code.specs.Local.{LocalView, loaded as on_top}
-use Rattle.hx_code.specs.Fits.{FitsLocal, LocalWell, goes_on}
+use Rattle.hx_code.specs.Fits.{FitsLocal, goes_on}
 use Rattle.hx_speculation.specs.Iteration.{Ask as Asked}
 use Rattle.hx_speculation.specs.Frame.{Frame, IsTrue, words, word, reads, stretch, is_held, goes_to}
 use Rattle.hx_speculation.proofs.Frames.{begins_true, stretch_true, loads_true, stores_true}
 use Rattle.hx_frame.specs.declared.action.Need.{Need}
 use Rattle.hx_frame.specs.declared.action.Need.TheVariants.{Nothing, ForLoad, ForStore, ForHead, Held}
 use Rattle.hx_frame.specs.declared.frame.Tag.{Tag}
-use Rattle.hx_frame.specs.Automaton.{asked_as, ask_in}
+use Rattle.hx_frame.specs.Automaton.{ask_in}
 use Rattle.hx_frame.specs.declared.action.Stop.TheVariants.{NeedHead}
 use Rattle.hx_frame.specs.declared.frame.Capacities.{Capacities}
 use Rattle.hx_frame.specs.Action.{action_in, need_of, stop_for}
-use Rattle.hx_frame.specs.Frame.{frame_of, Keeps, TellsNeed, WellAsked, stop_of}
+use Rattle.hx_frame.specs.Frame.{frame_of, Keeps, TellsNeed, stop_of}
 use Rattle.hx_frame.specs.Words.{RanTo}
 use Rattle.hx_frame.proofs.Stretches.{asks_as}
 

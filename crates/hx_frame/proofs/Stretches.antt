@@ -6,7 +6,7 @@ use Rattle.hx_code.specs.declared.word.Ask.TheVariants.{Goes, Loads, Stores, Pri
 use Rattle.hx_code.specs.declared.word.Next.{Next}
 use Rattle.hx_code.specs.Code.{CodeView}
 use Rattle.hx_code.specs.Local.{LocalView, LocalAsks, asks_of, LocalWent, loaded}
-use Rattle.hx_code.specs.Fits.{LocalGoing, LocalStretch}
+use Rattle.hx_code.specs.Fits.{LocalStretch}
 use Rattle.hx_speculation.specs.Iteration.{Ask as Asked}
 use Rattle.hx_speculation.specs.Frame.{Frame, words, word, reads, goes_to, stops_for, Need as Needed}
 use Rattle.hx_speculation.specs.View.{or_first}
