@@ -153,14 +153,14 @@ impl Drafted {
 
     /// How many regions there are: the number of the next.
     pub(crate) fn region_count(&self) -> Result<u32, AllocError>
-        ensures { IfOk result (λ n. n ≡ length self.now.regions) }
+        ensures { OkIff result (length self.now.regions < 2 ^ 32) (length self.now.regions) }
     {
         numbered(self.regions.len())
     }
 
     /// How many functions there are: the number of the next.
     pub(crate) fn function_count(&self) -> Result<u32, AllocError>
-        ensures { IfOk result (λ n. n ≡ length self.now.functions) }
+        ensures { OkIff result (length self.now.functions < 2 ^ 32) (length self.now.functions) }
     {
         numbered(self.functions.len())
     }
