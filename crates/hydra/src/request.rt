@@ -33,15 +33,12 @@ pub enum Request<'a> {
     Words(&'a str),
 }
 
-const DEFAULT_SETTINGS: Settings = Settings {
-    workers: 4,
-    marks: 512,
-    buffer: 64,
+// What a command without these options hands on. Its loops run on one thread, so they change nothing.
+const ONE_WORKER: Settings = Settings {
+    workers: 1,
+    marks: 1,
+    buffer: 1,
 };
-
-const DEFAULT_STEPS: u64 = 1_000_000_000;
-
-const DEFAULT_ENTRY: u64 = 1;
 
 fn paths_of<'a>(matches: &ArgMatches<'a>) -> Paths<'a> {
     Paths {
@@ -86,21 +83,25 @@ fn asked_of(matches: &ArgMatches<'_>) -> Option<Asked> {
     }
 }
 
+// The number of an option. Each has a default, so there is one always.
+fn small_number(matches: &ArgMatches<'_>, name: &str) -> u32 {
+    matches.get_one::<u32>(name).unwrap_or(0)
+}
+
+fn number(matches: &ArgMatches<'_>, name: &str) -> u64 {
+    matches.get_one::<u64>(name).unwrap_or(0)
+}
+
 fn settings_of(matches: &ArgMatches<'_>) -> Settings {
-    let number = |name: &str, default: u32| matches.get_one::<u32>(name).unwrap_or(default);
     Settings {
-        workers: number("workers", DEFAULT_SETTINGS.workers),
-        marks: number("marks", DEFAULT_SETTINGS.marks),
-        buffer: number("buffer", DEFAULT_SETTINGS.buffer),
+        workers: small_number(matches, "workers"),
+        marks: small_number(matches, "marks"),
+        buffer: small_number(matches, "buffer"),
     }
 }
 
 fn source_of<'a>(matches: &ArgMatches<'a>) -> &'a str {
     matches.get_str("FILE").unwrap_or("")
-}
-
-fn steps_of(matches: &ArgMatches<'_>) -> u64 {
-    matches.get_one::<u64>("steps").unwrap_or(DEFAULT_STEPS)
 }
 
 fn shown_of_replay(matches: &ArgMatches<'_>) -> Shown {
@@ -121,8 +122,8 @@ fn shown_of_timeline(matches: &ArgMatches<'_>) -> Shown {
 
 fn schedule_of<'a>(matches: &ArgMatches<'a>, shown: Shown) -> Schedule<'a> {
     Schedule {
-        nth: matches.get_one::<u64>("entry").unwrap_or(DEFAULT_ENTRY),
-        steps: steps_of(matches),
+        nth: number(matches, "entry"),
+        steps: number(matches, "steps"),
         settings: settings_of(matches),
         digits: matches.get_str("SCHEDULE").unwrap_or("").as_bytes(),
         shown,
@@ -137,10 +138,10 @@ fn request_of<'a>(name: &str, inner: &ArgMatches<'a>) -> Option<Request<'a>> {
         Some(Request::Execute(paths_of(inner), mode, settings_of(inner)))
     } else if name == "plain" {
         let mode = Mode::Plain {
-            steps: steps_of(inner),
+            steps: number(inner, "steps"),
             tail: tail_of(inner),
         };
-        Some(Request::Execute(paths_of(inner), mode, DEFAULT_SETTINGS))
+        Some(Request::Execute(paths_of(inner), mode, ONE_WORKER))
     } else if name == "replay" {
         let asked = schedule_of(inner, shown_of_replay(inner));
         Some(Request::Replay(paths_of_replay(inner), asked))
@@ -148,7 +149,7 @@ fn request_of<'a>(name: &str, inner: &ArgMatches<'a>) -> Option<Request<'a>> {
         let asked = schedule_of(inner, shown_of_timeline(inner));
         Some(Request::Replay(paths_of_replay(inner), asked))
     } else if name == "advise" {
-        Some(Request::Advise(paths_of_replay(inner), steps_of(inner)))
+        Some(Request::Advise(paths_of_replay(inner), number(inner, "steps")))
     } else if name == "check" {
         Some(Request::Check(paths_of_source(inner)))
     } else if name == "words" {
