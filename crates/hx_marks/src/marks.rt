@@ -118,7 +118,7 @@ impl Marks {
     pub fn is_same(&self, other: &Marks) -> bool
         ensures { IsTrue result ↔ (self.now.entries ≡ other.now.entries) }
     {
-        same_words(&self.words, &other.words) && same_values(&self.values, &other.values)
+        same_columns(&self.words, &self.values, &other.words, &other.values)
     }
 
     /// Forgets all marks, and keeps the room for them.
@@ -130,30 +130,17 @@ impl Marks {
     }
 }
 
-// Whether words are the same. They are few, and comparing them in groups would cost more than one by one.
-fn same_words(a: &[u32], b: &[u32]) -> bool
-    ensures { IsTrue result ↔ (a.now ≡ b.now) }
+// Whether both columns are the same. Entries are few, and comparing them in groups would cost more than one by one.
+fn same_columns(words: &[u32], values: &[i32], other_words: &[u32], other_values: &[i32]) -> bool
+    requires own { length words.now ≡ length values.now }
+    requires other { length other_words.now ≡ length other_values.now }
+    ensures { IsTrue result ↔ ((words.now ≡ other_words.now) × (values.now ≡ other_values.now)) }
 {
-    if a.len() != b.len() {
+    if words.len() != other_words.len() {
         return false;
     }
-    for k in 0..a.len() {
-        if a[k] != b[k] {
-            return false;
-        }
-    }
-    true
-}
-
-// Whether values are the same, one by one as the words.
-fn same_values(a: &[i32], b: &[i32]) -> bool
-    ensures { IsTrue result ↔ (a.now ≡ b.now) }
-{
-    if a.len() != b.len() {
-        return false;
-    }
-    for k in 0..a.len() {
-        if a[k] != b[k] {
+    for k in 0..words.len() {
+        if words[k] != other_words[k] || values[k] != other_values[k] {
             return false;
         }
     }

@@ -17,17 +17,17 @@ use std::marker::Model;
 /// An active iteration: its worker, its attempt, where that begins, and what it has read and written since. Contracts see that, and how
 /// many words its tables may have.
 ///
-/// Inside, only worker and attempt stand in the slot itself, so that it is looked for and moved without the rest.
+/// Inside, a slot is no more than a pointer, so that it is moved at no cost.
 #[derive(Drop)]
 pub struct Slot {
-    worker: u32,
-    attempt: u64,
     kept: Box<Kept>,
 }
 
-// Where an attempt begins, and what it has read and written since.
+// Whose iteration it is, which attempt, where that begins, and what it has read and written since.
 #[derive(Drop)]
 struct Kept {
+    worker: u32,
+    attempt: u64,
     start: Local,
     marks: Marks,
     buffer: WriteBuffer,
@@ -38,7 +38,7 @@ impl Model for Slot {
 
     ghost Value = { SlotView };
 
-    ghost view = { λ s. record { slot = record { worker = s.worker; attempt = s.attempt; start = s.kept.value.start; marks = s.kept.value.marks.entries; buffer = s.kept.value.buffer.entries }; rooms = record { marks = s.kept.value.marks.capacity; buffer = s.kept.value.buffer.capacity } } };
+    ghost view = { λ s. record { slot = record { worker = s.kept.value.worker; attempt = s.kept.value.attempt; start = s.kept.value.start; marks = s.kept.value.marks.entries; buffer = s.kept.value.buffer.entries }; rooms = record { marks = s.kept.value.marks.capacity; buffer = s.kept.value.buffer.capacity } } };
 }
 
 /// What a load comes to.
@@ -65,13 +65,13 @@ impl Slot {
         ensures { IfOk result (λ s. s.rooms ≡ rooms_for marks buffer) }
     {
         let kept = Kept {
+            worker: 0,
+            attempt: 0,
             start: Local::new(alloc, code)?,
             marks: Marks::with_capacity(alloc, marks as usize)?,
             buffer: WriteBuffer::with_capacity(alloc, buffer as usize)?,
         };
         Ok(Slot {
-            worker: 0,
-            attempt: 0,
             kept: Box::new(alloc, kept)?,
         })
     }
@@ -80,8 +80,8 @@ impl Slot {
     pub(crate) fn begin(&mut self, worker: u32, start: &Local)
         ensures { self.new ≡ record self.old { slot = first_attempt worker start.now } }
     {
-        self.worker = worker;
-        self.attempt = 1;
+        self.kept.worker = worker;
+        self.kept.attempt = 1;
         self.renew(start);
     }
 
@@ -105,14 +105,14 @@ impl Slot {
     pub fn worker(&self) -> u32
         ensures { result ≡ self.now.slot.worker }
     {
-        self.worker
+        self.kept.worker
     }
 
     /// Which attempt it is, from 1.
     pub fn attempt(&self) -> u64
         ensures { result ≡ self.now.slot.attempt }
     {
-        self.attempt
+        self.kept.attempt
     }
 
     /// Where the attempt begins.
@@ -140,7 +140,7 @@ impl Slot {
     pub(crate) fn is_at(&self, worker: u32, attempt: u64) -> bool
         ensures { result ≡ is_at self.now.slot worker attempt }
     {
-        self.worker == worker && self.attempt == attempt
+        self.kept.worker == worker && self.kept.attempt == attempt
     }
 
     /// A word as the iteration behind it sees it, where it sees this itself.
@@ -202,7 +202,7 @@ impl Slot {
     pub(crate) fn may_restart(&self) -> bool
         ensures { result ≡ nat_lt (suc self.now.slot.attempt) (2 ^ 64) }
     {
-        self.attempt < u64::MAX
+        self.kept.attempt < u64::MAX
     }
 
     /// Begins again.
@@ -210,7 +210,7 @@ impl Slot {
         requires { suc self.old.slot.attempt < 2 ^ 64 }
         ensures { self.new ≡ record self.old { slot = restarted self.old.slot } }
     {
-        self.attempt += 1;
+        self.kept.attempt += 1;
         self.forget();
     }
 

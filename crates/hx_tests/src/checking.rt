@@ -1,11 +1,8 @@
 // What the checker says of sources: which are accepted, which refusal the others get and where, and what regions take along.
 
-use hx_check::check::check;
+use crate::stages::{checked, compile};
 use hx_check::checked::Checked;
 use hx_check::resolved::{LoopKind, Program, Stmt, Words};
-use hx_lex::tokens;
-use hx_parse::parse;
-use hx_run::{Refusal, compile};
 use std::alloc::Global;
 use std::process::Abort;
 use std::test::Fail;
@@ -15,10 +12,7 @@ use std::test::Fail;
 fn answer(alloc: Global, source: &[u8]) -> (u32, u32) {
     match compile(alloc, source) {
         Ok(_) => (0, 0),
-        Err(refusal) => (
-            refusal.number(),
-            refusal.pos().map(|pos| pos.col).unwrap_or(0),
-        ),
+        Err(refused) => (refused.number(), refused.column()),
     }
 }
 
@@ -337,12 +331,6 @@ fn taken(checked: &Checked, alloc: Global, function: usize) -> Result<Vec<i32>, 
         }
     }
     Ok(all)
-}
-
-fn checked(alloc: Global, source: &[u8]) -> Result<Checked, Refusal> {
-    let tokens = tokens(alloc, source)?;
-    let program = parse(alloc, tokens.as_slice())?;
-    Ok(check(alloc, program)?)
 }
 
 fn expect_taken(rt: &impl Abort, alloc: Global, source: &[u8], want: &[i32]) -> Result<(), Fail> {

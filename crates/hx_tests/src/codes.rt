@@ -1,11 +1,11 @@
 // Small codes by hand: what the rules refuse, and what the executor does before it asks.
 
+use crate::stages::compile;
 use hx_code::code::Code;
 use hx_code::local::Local;
 use hx_code::table::{Carried, Func, Induct, Region, Spot, Tables};
 use hx_code::validate::validate;
 use hx_code::word::{Array, Ask, Output, Word};
-use hx_run::compile;
 use hx_tree::outcome::{Fault, FaultKind};
 use hx_tree::token::Pos;
 use hx_tree::tree::{Operator, UnaryOp};

@@ -1,4 +1,4 @@
-//! The tests of the stages from source to code, and of tables: each file is named like the stage that it tests.
+//! The tests of the stages from source to code: each file is named like the stage that it tests.
 #![tactic(auto)]
 
 #[cfg(test)]
@@ -14,6 +14,6 @@ mod nodes;
 #[cfg(test)]
 mod parsing;
 #[cfg(test)]
-mod tables;
+mod stages;
 #[cfg(test)]
 mod trees;

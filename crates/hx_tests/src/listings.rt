@@ -1,7 +1,7 @@
 // Listings of whole sources, worked out by hand from the rules of lowering.
 
+use crate::stages::compile;
 use hx_lower::listing;
-use hx_run::compile;
 use std::alloc::Global;
 use std::process::Abort;
 use std::test::Fail;

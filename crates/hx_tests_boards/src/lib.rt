@@ -1,4 +1,4 @@
-//! The tests of marked loops below whole runs: frames, plain regions, boards, schedules and workers over boards, by public calls.
+//! The tests of marked loops below whole runs: tables, frames, plain regions, boards, schedules and workers over boards, by public calls.
 #![tactic(auto)]
 
 #[cfg(test)]
@@ -17,3 +17,5 @@ mod refined;
 mod regions;
 #[cfg(test)]
 mod schedules;
+#[cfg(test)]
+mod tables;
