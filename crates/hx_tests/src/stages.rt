@@ -11,6 +11,7 @@ use hx_tree::token::Pos;
 use std::alloc::Global;
 
 /// Which stage refuses a source, and why.
+#[derive(Clone, Copy, Debug)]
 pub(crate) enum Refused {
     Lex(LexError),
     Parse(ParseError),
