@@ -32,4 +32,6 @@ mod schedules;
 #[cfg(test)]
 mod tables;
 #[cfg(test)]
+mod texts;
+#[cfg(test)]
 mod trees;
