@@ -19,3 +19,5 @@ mod regions;
 mod schedules;
 #[cfg(test)]
 mod tables;
+#[cfg(test)]
+mod texts;

@@ -2,6 +2,7 @@
 
 use crate::tests::{SUM, TWO_TURNS, done_by, expect, shows};
 use hx_answer::{NoTrace, Schedule, Shown, replay_of};
+use hx_run::Refusal;
 use hx_tree::outcome::Settings;
 use std::alloc::Global;
 use std::fs;
@@ -80,6 +81,26 @@ fn settles_stores(rt: HostRuntime) {
         refused.map(|why| matches!(why, NoTrace::Schedule(_))),
         Some(true)
     );
+}
+
+fn is_said(rt: &impl Abort, alloc: Global, why: NoTrace, text: &str) -> Result<(), Fail> {
+    let said = format!(in alloc; "{why}")?;
+    assert_eq!(rt; said.as_str(), text);
+    Ok(())
+}
+
+#[test]
+fn says_why_there_is_no_trace(rt: HostRuntime) -> Result<(), Fail> {
+    let alloc = rt.alloc();
+    is_said(&rt, alloc, NoTrace::NoEntry, "no such region entry")?;
+    is_said(&rt, alloc, NoTrace::NotEnded, "not ended")?;
+    let refused = NoTrace::Refused(Refusal::Settings);
+    is_said(&rt, alloc, refused, "settings out of range")?;
+    match replay_of(alloc, TWO_TURNS, &[], &asked(b"012")) {
+        Ok(_) => assert!(&rt; false),
+        Err(why) => is_said(&rt, alloc, why, "an entry of the schedule names no worker")?,
+    }
+    Ok(())
 }
 
 #[test]

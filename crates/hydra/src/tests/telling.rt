@@ -137,3 +137,28 @@ fn tells_names(rt: HostRuntime) -> Result<(), Fail> {
         b"int g; int a[3] = {3,4,5}; int h; int other(){ int x; return 0; } int main(){ int y; { int z; z=1; } int sum=0; pfor(int i=1;i<3;i++) sum=sum+a[i]; print(sum); }";
     tells(&rt, p, source, "000000111", "64", NAMES)
 }
+
+const SHORT: &[u8] = b"\
+worker 0 starts iteration 0\n\
+worker 0 stores g: 112\n\
+worker 0 gets the head\n\
+state running\nturns 0\nrepeats 0\nviolations 0\nrestarts 0\nholds 0\nabandons 0\ndiscarded 0\nspared 0\n";
+
+const LONG: &[u8] = b"\
+worker 0 starts iteration 0\n\
+worker 0 computes on\n\
+worker 0 stores g: -112\n\
+state running\nturns 0\nrepeats 0\nviolations 0\nrestarts 0\nholds 0\nabandons 0\ndiscarded 0\nspared 0\n";
+
+// Before the store of `g` a turn has 4 words for its test, 2 for `k`, 2 for its first value, 9 for each of 112 rounds, 4 for the last test
+// and 1 for what is stored: 1,021. With `k=k;` there are 2 more, and with `k=-k;` 3 more.
+#[test]
+fn tells_long_computations(rt: HostRuntime) -> Result<(), Fail> {
+    let p = "hydra-test-tells-long.hc";
+    let short =
+        b"int g; int main(){ pfor(int i=0;i<1;i++){ int k; for(k=0;k<112;k++) ; k=k; g=k; } }";
+    tells(&rt, p, short, "000", "64", SHORT)?;
+    let long =
+        b"int g; int main(){ pfor(int i=0;i<1;i++){ int k; for(k=0;k<112;k++) ; k=-k; g=k; } }";
+    tells(&rt, p, long, "000", "64", LONG)
+}
