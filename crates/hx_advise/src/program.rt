@@ -7,7 +7,7 @@ ghost use Rattle.hx_advise.specs.Runs.{Story, IsTold, IsSeen, AreSeen, IsAdvice,
 
 use crate::region::{WORD_LIMIT, Watched, watch_region};
 use crate::watch::Need;
-use hx_code::code::Code;
+use hx_exec::executable::Executable;
 use hx_word::plain::{Open, Paused, Plain, PlainError};
 use hx_word::region_run::RegionRun;
 use std::alloc::{AllocError, Global};
@@ -86,7 +86,7 @@ fn add_needs(all: &mut Vec<Need>, more: &[Need]) -> Result<(), AllocError> {
     Ok(())
 }
 
-fn nothing_seen(alloc: Global, code: &Code) -> Result<Vec<Seen>, AllocError>
+fn nothing_seen(alloc: Global, code: &Executable) -> Result<Vec<Seen>, AllocError>
     ensures long { IfOk result (λ v. length v.items ≡ length code.now.regions) }
     ensures seen { IfOk result (λ v. AreSeen [] v.items) }
 {
@@ -101,7 +101,7 @@ fn nothing_seen(alloc: Global, code: &Code) -> Result<Vec<Seen>, AllocError>
 // A loop that has opened, to its end: the machine behind it and how many words it did, or none where it isn't over within so many.
 fn pass<'c>(
     alloc: Global,
-    code: &'c Code,
+    code: &'c Executable,
     open: Open<'c>,
     steps: u64,
     loops: &mut [Seen],
@@ -132,7 +132,7 @@ fn pass<'c>(
 // Goes on with a run, and watches each loop that it opens.
 fn watch_loops<'c>(
     alloc: Global,
-    code: &'c Code,
+    code: &'c Executable,
     plain: Plain<'c>,
     steps: u64,
 ) -> Result<Advice, AllocError>
@@ -188,7 +188,7 @@ fn has_ended(plain: Plain<'_>) -> bool
 /// within its words, and else as many as may be, but for 255 for each loop that was opened.
 ///
 /// `InputUnfit` exactly where the input is longer than its array; another error is want of memory.
-pub fn advise(alloc: Global, code: &Code, input: &[i32], steps: u64) -> Result<Advice, PlainError>
+pub fn advise(alloc: Global, code: &Executable, input: &[i32], steps: u64) -> Result<Advice, PlainError>
     ensures advice { IfOk result (IsAdvice code.now (opening_machine code.now input.now) steps) }
     ensures fits { OnOk result (InputFits code.now input.now) }
     ensures unfit { IsErrOf result PlainError.InputUnfit ↔ (room_for_input code.now < length input.now) }

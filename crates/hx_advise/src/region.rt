@@ -9,8 +9,8 @@ ghost use Rattle.hx_advise.specs.Course.{Keeps, Followed};
 ghost use Rattle.hx_advise.specs.Regions.{IsWatched, IsVerdict};
 
 use crate::watch::Watch;
-use hx_code::code::Code;
-use hx_code::local::Local;
+use hx_exec::executable::Executable;
+use hx_exec::local::Local;
 use hx_code::word::Ask;
 use hx_tree::limits::TEXT_LIMIT;
 use hx_word::entry::{Entry, opened_by};
@@ -46,7 +46,7 @@ pub struct Course {
 /// word that an earlier one wrote.
 pub fn watch_region(
     alloc: Global,
-    code: &Code,
+    code: &Executable,
     region: u32,
     entry: &Entry,
     steps: u64,
@@ -75,7 +75,7 @@ pub fn watch_region(
 }
 
 // Iteration j begins.
-fn begin(code: &Code, opened: &Opened, course: &mut Course, j: u64)
+fn begin(code: &Executable, opened: &Opened, course: &mut Course, j: u64)
     requires { IsOpened code.now (opened_of opened.now) }
     ensures { course.new ≡ record course.old { local = opening code.now (opened_of opened.now) j } }
 {
@@ -85,7 +85,7 @@ fn begin(code: &Code, opened: &Opened, course: &mut Course, j: u64)
 }
 
 // Does words of a region from its beginning, up to so many or to its end: how many, and whether it has ended.
-fn follow(code: &Code, opened: &Opened, course: &mut Course, steps: u64) -> (u64, bool)
+fn follow(code: &Executable, opened: &Opened, course: &mut Course, steps: u64) -> (u64, bool)
     requires opened { IsOpened code.now (opened_of opened.now) }
     requires keeps { Keeps code.now (opened_of opened.now) course.old.store.items 0 course.old }
     requires few { steps ≤ WORD_LIMIT }

@@ -12,9 +12,10 @@ use crate::answer::show_text;
 use crate::status::{Status, tell_refusal};
 use hx_advise::{Advice, Seen, advise};
 use hx_code::code::Code;
+use hx_exec::executable::Executable;
 use hx_device::{ByteSink, ByteSource};
 use hx_names::{lines_of, names_of};
-use hx_run::{Refusal, compile, parse_source, read_source};
+use hx_run::{Refusal, executable_of, parse_source, read_source};
 use hx_tree::tree::Program;
 use std::alloc::{AllocError, Global};
 use std::io::Write;
@@ -22,7 +23,7 @@ use std::io::Write;
 /// Code of a source, and what was seen of its loops.
 #[derive(Drop)]
 pub struct Advised {
-    pub code: Code,
+    pub code: Executable,
     pub advice: Advice,
 }
 
@@ -84,7 +85,7 @@ fn text_of(
 }
 
 // What is seen of the loops of code.
-fn seen_of(alloc: Global, code: &Code, input: &[i32], steps: u64) -> Result<Advice, Refusal>
+fn seen_of(alloc: Global, code: &Executable, input: &[i32], steps: u64) -> Result<Advice, Refusal>
     ensures advice { IfOk result (IsAdvice code.now (opening_machine code.now input.now) steps) }
     ensures refused { IfErr result (RefusesInput code.now input.now) }
 {
@@ -107,7 +108,7 @@ pub fn advised_of(
     ensures advised { IfOk result (IsAdvised source.now input.now steps) }
     ensures refused { IfErr result (RefusesRun source.now input.now) }
 {
-    let code = compile(alloc, source)?;
+    let code = executable_of(alloc, source)?;
     let advice = seen_of(alloc, &code, input, steps)?;
     Ok(Advised { code, advice })
 }
@@ -125,7 +126,7 @@ pub fn advice_of(
     ensures refused { IfErr result (RefusesRun source.now input.now) }
 {
     let advised = advised_of(alloc, source, input, steps)?;
-    match text_of(alloc, source, &advised.code, &advised.advice, steps) {
+    match text_of(alloc, source, advised.code.code(), &advised.advice, steps) {
         Ok(text) => Ok(text),
         Err(_) => Err(Refusal::Memory),
     }

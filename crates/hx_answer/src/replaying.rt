@@ -7,10 +7,10 @@ ghost use Rattle.hx_answer.specs.declared.replaying.NoTrace.TheVariants as no_tr
 ghost use Rattle.hx_word.specs.declared.plain.Reached.TheVariants as reached;
 
 use crate::digits::{are_workers, numbers_of};
-use hx_code::code::Code;
+use hx_exec::executable::Executable;
 use hx_frame::Capacities;
 use hx_names::names_of;
-use hx_run::{Refusal, compile, parse_source};
+use hx_run::{Refusal, executable_of, parse_source};
 use hx_trace::{Called, Told, TraceError, replay_told};
 use hx_tree::outcome::Settings;
 use hx_word::entry::Entry;
@@ -89,7 +89,7 @@ impl From<TraceError> for NoTrace {
 // The region and its entry.
 fn reach(
     alloc: Global,
-    code: &Code,
+    code: &Executable,
     input: &[i32],
     nth: u64,
     steps: u64,
@@ -115,7 +115,7 @@ fn reach(
 // What a schedule comes to from a region's entry.
 fn told_from(
     alloc: Global,
-    code: &Code,
+    code: &Executable,
     region: u32,
     entry: &Entry,
     settings: Settings,
@@ -162,7 +162,7 @@ pub fn replay_of(
     ensures told { IfOk result (λ r. IsReplayOf source.now input.now asked.now r.told) }
     ensures refused { IfErr result (RefusesReplay source.now input.now asked.now) }
 {
-    let code = compile(alloc, source)?;
+    let code = executable_of(alloc, source)?;
     let (region, entry) = reach(alloc, &code, input, asked.nth, asked.steps)?;
     let told = told_from(alloc, &code, region, &entry, asked.settings, asked.digits)?;
     let Ok(names) = names_in(alloc, source, &code, region) else {
@@ -175,11 +175,11 @@ pub fn replay_of(
 fn names_in(
     alloc: Global,
     source: &[u8],
-    code: &Code,
+    code: &Executable,
     region: u32,
 ) -> Result<Vec<Called>, AllocError> {
     let Ok(program) = parse_source(alloc, source) else {
         return Err(AllocError);
     };
-    names_of(alloc, &program, code, region)
+    names_of(alloc, &program, code.code(), region)
 }

@@ -16,7 +16,7 @@ use crate::answers::{Alive, Headed, Loaded, Settled, Started, State, Stored};
 use crate::effect::{Effect, count_store, first_counts, takes_effect};
 use crate::head::Head;
 use crate::job::{Job, is_same_entry};
-use hx_code::local::Local;
+use hx_exec::local::Local;
 use hx_code::word::Exit;
 use hx_frame::{Capacities, Frame, Tag};
 use hx_slots::slot::Found;

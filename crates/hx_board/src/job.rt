@@ -3,13 +3,13 @@
 ghost use Rattle.std.specs.Prelude.{◌≡◌, IsTrue, ◌↔◌};
 ghost use Rattle.hx_board.specs.Board.{entry_view};
 
-use hx_code::code::Code;
+use hx_exec::executable::Executable;
 use hx_word::entry::Entry;
 
 /// A region of a code, by its number in the code's table.
 #[derive(Clone, Copy)]
 pub struct Job<'c> {
-    pub code: &'c Code,
+    pub code: &'c Executable,
     pub region: u32,
 }
 

@@ -1,12 +1,9 @@
-pub mod Tops
 pub mod Fits
 pub mod Rooms
 pub mod Arguments
-pub mod Numbers
 pub mod Calls
 pub mod Locals
 pub mod Counters
 pub mod Regions
 pub mod Validation
-pub mod Shortcuts
 pub mod Alike

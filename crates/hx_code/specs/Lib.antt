@@ -5,7 +5,6 @@ pub mod Valid
 pub mod Local
 pub mod Store
 pub mod Fits
-pub mod Shortcuts
 pub mod Calls
 pub mod Region
 pub mod Counter

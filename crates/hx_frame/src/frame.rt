@@ -10,8 +10,8 @@ ghost use Rattle.hx_frame.specs.Frame.{FrameView, stop_of, action_of, waiting_as
 use crate::action::{Action, Need, Stop, waits_with};
 use crate::words::run_words;
 use hx_buffer::WriteBuffer;
-use hx_code::code::Code;
-use hx_code::local::Local;
+use hx_exec::executable::Executable;
+use hx_exec::local::Local;
 use hx_code::word::Ask;
 use hx_marks::Marks;
 use std::alloc::{AllocError, Global};
@@ -36,7 +36,7 @@ pub struct Tag {
 /// it has read and written tells truly how it came from its start to where it is.
 #[derive(Drop)]
 pub struct Frame<'c> {
-    code: &'c Code,
+    code: &'c Executable,
     capacities: Capacities,
     tag: Tag,
     start: Local,
@@ -62,7 +62,7 @@ impl<'c> Frame<'c> {
     /// made here.
     pub fn new(
         alloc: Global,
-        code: &'c Code,
+        code: &'c Executable,
         capacities: Capacities,
     ) -> Result<Frame<'c>, AllocError>
         ensures { IfOk result (λ f. f ≡ record { code = code.now; capacities = capacities; frame = begins 0 0 0 (first_local code.now) }) }
@@ -174,7 +174,7 @@ impl<'c> Frame<'c> {
     }
 
     /// Its code.
-    pub fn code(&self) -> &'c Code
+    pub fn code(&self) -> &'c Executable
         ensures { result.now ≡ self.now.code }
     {
         self.code

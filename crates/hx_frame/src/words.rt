@@ -8,8 +8,8 @@ ghost use Rattle.hx_frame.specs.Words.{RanTo};
 
 use crate::action::Need;
 use hx_buffer::WriteBuffer;
-use hx_code::code::Code;
-use hx_code::local::Local;
+use hx_exec::executable::Executable;
+use hx_exec::local::Local;
 use hx_code::word::Ask;
 use hx_marks::Marks;
 
@@ -25,7 +25,7 @@ fn known(marks: &Marks, writes: &WriteBuffer, word: u32) -> Option<i32>
 
 /// Does words up to a limit, and stops before one that needs more than what was read and written.
 pub(crate) fn run_words(
-    code: &Code,
+    code: &Executable,
     here: &mut Local,
     marks: &Marks,
     writes: &WriteBuffer,

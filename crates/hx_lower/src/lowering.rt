@@ -28,10 +28,7 @@ pub fn lower(alloc: Global, checked: &Checked) -> Result<Code, LowerError>
     lowered_code_is_valid();
     code_behaves();
     match validate(words, tables) {
-        Some(code) => {
-            let quick = code.with_shortcuts(alloc)?;
-            Ok(quick)
-        }
+        Some(code) => Ok(code),
         None => unreachable!(),
     }
 }

@@ -11,7 +11,7 @@ ghost use Rattle.hx_pool.specs.Setups.{crew_setup};
 
 use crate::run::Run;
 use hx_board::{Alive, Board, Head, Headed, Job, Loaded, Settled, Started, Stored};
-use hx_code::code::Code;
+use hx_exec::executable::Executable;
 use hx_frame::{Capacities, Frame};
 use hx_tree::outcome::Settings;
 use hx_word::entry::{Entry, RegionEnd};
@@ -40,7 +40,7 @@ impl<'c, R: Run> Kept<'c, R> {
     /// Both as region 0 opens with words 0. All room that any region needs is made here.
     pub(crate) fn new(
         alloc: Global,
-        code: &'c Code,
+        code: &'c Executable,
         settings: Settings,
     ) -> Result<Kept<'c, R>, AllocError>
         requires own { crew_setup code.now settings ≡ R.setup }

@@ -15,7 +15,7 @@ use crate::shared::Shared;
 use crate::worker::work;
 use crossbeam_utils::CachePadded;
 use hx_board::{Alive, Head, Headed, Job, Loaded, Settled, Started, Stored};
-use hx_code::code::Code;
+use hx_exec::executable::Executable;
 use hx_frame::{Capacities, Frame};
 use hx_tree::outcome::Settings;
 use hx_word::entry::{Entry, RegionEnd};
@@ -70,7 +70,7 @@ struct Room<'c, R: Run> {
 pub struct Station<'c, R: Run> {
     room: CachePadded<Mutex<Room<'c, R>>>,
     changed: Condvar,
-    code: &'c Code,
+    code: &'c Executable,
     workers: u32,
     rooms: Capacities,
     ghost own_code: { code.now ≡ R.setup.code },
@@ -84,7 +84,7 @@ impl<'c, R: Run> Station<'c, R> {
     /// regions needs none. 50 for want of memory alone.
     pub fn new(
         alloc: Global,
-        code: &'c Code,
+        code: &'c Executable,
         settings: Settings,
     ) -> Result<Station<'c, R>, PoolError>
         requires own { crew_setup code.now settings ≡ R.setup }
@@ -208,7 +208,7 @@ impl<'c, R: Run> Station<'c, R> {
 // The storage for the regions of a code.
 fn storage_for<'c, R: Run>(
     alloc: Global,
-    code: &'c Code,
+    code: &'c Executable,
     settings: Settings,
 ) -> Result<Storage<'c, R>, AllocError>
     requires { crew_setup code.now settings ≡ R.setup }

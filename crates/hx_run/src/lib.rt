@@ -20,4 +20,4 @@ pub use reading::read_source;
 pub use refusal::Refusal;
 pub use running::{PlainRan, are_in_range, run, run_plain};
 pub use showing::Tail;
-pub use source::{compile, parse_source};
+pub use source::{compile, executable_of, parse_source};

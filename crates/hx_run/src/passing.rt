@@ -7,7 +7,7 @@ ghost use Rattle.hx_pool.specs.Setups.{StaysOwn};
 ghost use Rattle.hx_run.specs.Runs.{IsBehind};
 
 use hx_board::Job;
-use hx_code::code::Code;
+use hx_exec::executable::Executable;
 use hx_frame::Frame;
 use hx_pool::{Gate, PoolError, Run, Station};
 use hx_tree::outcome::Counts;
@@ -62,7 +62,7 @@ pub(crate) fn counted(plain: Counts, loops: Counts) -> Counts
 /// What a run keeps from marked loop to marked loop: the first worker's frame, and room for the entry and the end of each.
 #[derive(Drop)]
 pub(crate) struct Desk<'c, R: Run> {
-    code: &'c Code,
+    code: &'c Executable,
     frame: Frame<'c>,
     entry: Entry,
     end: RegionEnd,
@@ -77,7 +77,7 @@ impl<'c, R: Run> Desk<'c, R> {
     /// Room for the loops of a code that has some.
     pub(crate) fn new(
         alloc: Global,
-        code: &'c Code,
+        code: &'c Executable,
         station: &Station<'c, R>,
     ) -> Result<Desk<'c, R>, PoolError>
         requires own { code.now ≡ R.setup.code }
@@ -123,7 +123,7 @@ impl<'c, R: Run> Desk<'c, R> {
 // The same over the parts of a desk.
 fn pass_region<'c, R: Run, W: Wait, G: Gate>(
     rt: &W,
-    code: &Code,
+    code: &Executable,
     station: &Station<'_, R>,
     opened: Open<'c>,
     entry: &mut Entry,

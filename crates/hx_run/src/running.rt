@@ -10,8 +10,8 @@ ghost use Rattle.hx_run.specs.Runs.{IsOpening, EndsSo, PlainlySo, RefusesInput};
 
 use crate::passing::{Desk, add_up, counted, no_counts};
 use crate::refusal::Refusal;
-use crate::source::compile;
-use hx_code::code::Code;
+use crate::source::executable_of;
+use hx_exec::executable::Executable;
 use hx_pool::{Gate, PoolError, Run, Seat, Station};
 use hx_tree::limits::{TABLE_LIMIT, WORKER_LIMIT};
 use hx_tree::outcome::{Finish, Settings};
@@ -189,7 +189,7 @@ fn run_alone<R: Run, I: Given, W: Wait>(rt: &W, first: Plain<'_>) -> Finish
 // What the marked loops of a code are run with: the caller's part, and the seats of the other workers.
 fn places_at<'c, R: Run>(
     alloc: Global,
-    code: &'c Code,
+    code: &'c Executable,
     station: &Station<'c, R>,
 ) -> Result<(Desk<'c, R>, Vec<Seat<'c, R>>), PoolError>
     requires own { code.now ≡ R.setup.code }
@@ -204,7 +204,7 @@ fn places_at<'c, R: Run>(
 fn run_branded<'c, R: Run + Send + Sync, I: Given, W: Threads + Wait + Sync, G: Gate>(
     alloc: Global,
     rt: &W,
-    code: &'c Code,
+    code: &'c Executable,
     input: &[i32],
     crew: Settings,
     stack: Option<usize>,
@@ -232,7 +232,7 @@ fn run_branded<'c, R: Run + Send + Sync, I: Given, W: Threads + Wait + Sync, G: 
 fn run_code<W: Threads + Wait + Sync, G: Gate>(
     alloc: Global,
     rt: &W,
-    code: &Code,
+    code: &Executable,
     input: &[i32],
     settings: Settings,
     stack: Option<usize>,
@@ -269,7 +269,7 @@ pub enum PlainRan {
 }
 
 // Runs code for at most so many words.
-fn run_code_for(alloc: Global, code: &Code, input: &[i32], steps: u64) -> Result<PlainRan, Refusal>
+fn run_code_for(alloc: Global, code: &Executable, input: &[i32], steps: u64) -> Result<PlainRan, Refusal>
     ensures ran { IfOk result (PlainlySo code.now input.now steps) }
     ensures fits { OnOk result (InputFits code.now input.now) }
     ensures refused { IfErr result (RefusesInput code.now input.now) }
@@ -333,7 +333,7 @@ pub(crate) fn run_in_range<R: Threads + Wait + Sync, G: Gate>(
     ensures refused { IfErr result (RefusesRun source.now input.now) }
 {
     known(input);
-    let code = compile(alloc, source)?;
+    let code = executable_of(alloc, source)?;
     run_code(alloc, rt, &code, input, settings, stack, gate)
 }
 
@@ -351,6 +351,6 @@ pub fn run_plain(
     ensures refused { IfErr result (RefusesRun source.now input.now) }
 {
     known(input);
-    let code = compile(alloc, source)?;
+    let code = executable_of(alloc, source)?;
     run_code_for(alloc, &code, input, steps)
 }

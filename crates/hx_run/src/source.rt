@@ -10,8 +10,9 @@ ghost use Rattle.hx_run.specs.Sources.{IsSpelledAlone};
 use crate::refusal::Refusal;
 use hx_check::check::check;
 use hx_code::code::Code;
+use hx_exec::executable::Executable;
 use hx_lex::tokens;
-use hx_lower::lower;
+use hx_lower::{LowerError, lower};
 use hx_parse::parse;
 use hx_tree::tree::Program;
 use std::alloc::Global;
@@ -40,4 +41,18 @@ pub fn compile(alloc: Global, source: &[u8]) -> Result<Code, Refusal>
     let program = parse_source(alloc, source)?;
     let checked = check(alloc, program)?;
     Ok(lower(alloc, &checked)?)
+}
+
+/// The code of a source with its table of instructions, by which it is run.
+///
+/// An `Ok` is as in `compile`, and so are the refusals; 30 also means that memory for the table was refused.
+pub fn executable_of(alloc: Global, source: &[u8]) -> Result<Executable, Refusal>
+    ensures code { IfOk result (IsCodeOf source.now) }
+    ensures refused { IfErr result (RefusesSource source.now) }
+{
+    let code = compile(alloc, source)?;
+    match Executable::new(alloc, code) {
+        Ok(executable) => Ok(executable),
+        Err(_) => Err(Refusal::Lower(LowerError::Memory)),
+    }
 }

@@ -8,8 +8,8 @@ ghost use Rattle.hx_speculation.specs.Slots.{is_at, restarted, finds_own, is_vio
 ghost use Rattle.hx_slots.specs.Slot.{found_of, marked_by, rooms_for, HasRoomFor};
 
 use hx_buffer::WriteBuffer;
-use hx_code::code::Code;
-use hx_code::local::Local;
+use hx_exec::executable::Executable;
+use hx_exec::local::Local;
 use hx_marks::Marks;
 use std::alloc::{AllocError, Global};
 use std::marker::Model;
@@ -58,7 +58,7 @@ impl Slot {
     /// Room for an iteration.
     pub(crate) fn new(
         alloc: Global,
-        code: &Code,
+        code: &Executable,
         marks: u32,
         buffer: u32,
     ) -> Result<Slot, AllocError>

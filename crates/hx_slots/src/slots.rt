@@ -10,8 +10,8 @@ ghost use Rattle.hx_slots.specs.Slots.{SlotsView, after_load, after_store, writt
 use crate::index::MarkIndex;
 use crate::places::{first_violated, is_marked, may_restart, place_at, place_of, restart, seen};
 use crate::slot::{Found, Slot};
-use hx_code::code::Code;
-use hx_code::local::Local;
+use hx_exec::executable::Executable;
+use hx_exec::local::Local;
 use hx_tree::limits::CELL_LIMIT;
 use std::alloc::{AllocError, Global};
 use std::marker::Model;
@@ -56,7 +56,7 @@ impl Slots {
     /// None is active; there is room for so many, with tables of so many words. All the room that there will be is made here.
     pub fn new(
         alloc: Global,
-        code: &Code,
+        code: &Executable,
         slots: u32,
         marks: u32,
         buffer: u32,

@@ -3,9 +3,9 @@
 ghost use Rattle.std.specs.Prelude.{◌≡◌};
 
 use hx_board::State;
-use hx_code::code::Code;
+use hx_exec::executable::Executable;
 use hx_frame::Capacities;
-use hx_run::compile;
+use hx_run::executable_of;
 use hx_trace::{Trace, TraceError, replay};
 use hx_tree::outcome::{Fault, FaultKind};
 use hx_tree::token::Pos;
@@ -62,7 +62,7 @@ fn in_turn(alloc: Global, last: u8) -> Result<Vec<u8>, Fail> {
 
 fn replayed(
     alloc: Global,
-    code: &Code,
+    code: &Executable,
     at: &Open<'_>,
     workers: u32,
     rooms: Capacities,
@@ -77,7 +77,7 @@ fn replayed(
 // The first marked loop of a code.
 fn loop_of(
     alloc: Global,
-    code: &Code,
+    code: &Executable,
     input: &[i32],
     workers: u32,
     rooms: Capacities,
@@ -101,7 +101,7 @@ fn first_loop(
     rooms: Capacities,
     schedule: &[u8],
 ) -> Result<Result<Trace, TraceError>, Fail> {
-    match compile(alloc, source) {
+    match executable_of(alloc, source) {
         Ok(code) => loop_of(alloc, &code, input, workers, rooms, schedule),
         Err(_) => Err(Fail::from("refused")),
     }

@@ -6,10 +6,10 @@ ghost use Rattle.hx_word.specs.Entry.{EntryFits};
 ghost use Rattle.hx_pool.specs.Setups.{setup_by};
 
 use hx_board::{Alive, Board, Head, Headed, Job, Loaded, Settled, Started, State, Stored};
-use hx_code::code::Code;
+use hx_exec::executable::Executable;
 use hx_frame::{Capacities, Frame};
 use hx_pool::{Shared, Unwatched, work};
-use hx_run::compile;
+use hx_run::executable_of;
 use hx_word::entry::Entry;
 use hx_word::plain::{Open, Paused, Plain};
 use std::alloc::Global;
@@ -213,7 +213,7 @@ fn works_over<M: Made + Send + Sync, W: Wait>(
 fn works_at<W: Wait>(
     rt: &W,
     alloc: Global,
-    code: &Code,
+    code: &Executable,
     opened: &Open<'_>,
     at: u64,
     lie: Lie,
@@ -232,7 +232,7 @@ fn works_at<W: Wait>(
 fn works_to_the_end<W: Wait>(
     rt: &W,
     alloc: Global,
-    code: &Code,
+    code: &Executable,
     at: u64,
     lie: Lie,
 ) -> Result<Shown, Fail> {
@@ -255,8 +255,8 @@ const PROGRAMS: [&[u8]; 3] = [
 /// More calls than a worker makes over any of them.
 const CALLS: u64 = 60;
 
-fn code_of(alloc: Global, source: &[u8]) -> Result<Code, Fail> {
-    match compile(alloc, source) {
+fn code_of(alloc: Global, source: &[u8]) -> Result<Executable, Fail> {
+    match executable_of(alloc, source) {
         Ok(code) => Ok(code),
         Err(_) => Err(Fail::from("refused")),
     }

@@ -5,9 +5,9 @@ ghost use Rattle.std.specs.Prelude.{◌≡◌, ◌<◌, length, IsTrue};
 ghost use Rattle.hx_word.specs.Entry.{EntryFits};
 
 use hx_board::{Board, Head, Headed, Job, Loaded, Settled, Started, State, Stored};
-use hx_code::code::Code;
+use hx_exec::executable::Executable;
 use hx_frame::{Capacities, Frame, Stop};
-use hx_run::compile;
+use hx_run::executable_of;
 use hx_word::entry::{Entry, RegionEnd};
 use hx_word::plain::{Open, Paused, Plain};
 use std::alloc::{AllocError, Global};
@@ -250,15 +250,15 @@ fn board_for<'c>(rt: &impl Abort, alloc: Global, job: Job<'c>, entry: &Entry) ->
     }
 }
 
-fn frame_for<'c>(rt: &impl Abort, alloc: Global, code: &'c Code) -> Frame<'c> {
+fn frame_for<'c>(rt: &impl Abort, alloc: Global, code: &'c Executable) -> Frame<'c> {
     match Frame::new(alloc, code, ROOMS) {
         Ok(frame) => frame,
         Err(_) => panic!(rt; "no memory"),
     }
 }
 
-fn code_for(rt: &impl Abort, alloc: Global, source: &[u8]) -> Code {
-    match compile(alloc, source) {
+fn code_for(rt: &impl Abort, alloc: Global, source: &[u8]) -> Executable {
+    match executable_of(alloc, source) {
         Ok(code) => code,
         Err(_) => panic!(rt; "refused"),
     }
@@ -455,7 +455,7 @@ fn tries_over(rt: &impl Abort, alloc: Global, job: Job<'_>, entry: &Entry, trial
 fn tries_at(
     rt: &impl Abort,
     alloc: Global,
-    code: &Code,
+    code: &Executable,
     opened: &Open<'_>,
     trial: Trial,
 ) -> Result<(), Fail>
@@ -471,7 +471,7 @@ fn tries_at(
 }
 
 // The first region of a code.
-fn tries_of(rt: &impl Abort, alloc: Global, code: &Code, trial: Trial) -> Result<(), Fail> {
+fn tries_of(rt: &impl Abort, alloc: Global, code: &Executable, trial: Trial) -> Result<(), Fail> {
     let Ok(plain) = Plain::new(alloc, code, &[]) else {
         return Err(Fail::from("no machine"));
     };

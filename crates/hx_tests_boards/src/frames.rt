@@ -3,24 +3,24 @@
 ghost use Rattle.std.specs.Prelude.{IfOk};
 ghost use Rattle.hx_code.specs.Fits.{FitsLocal};
 
-use hx_code::code::Code;
-use hx_code::local::Local;
+use hx_exec::executable::Executable;
+use hx_exec::local::Local;
 use hx_frame::action::{Action, Stop};
 use hx_frame::frame::{Capacities, Frame, Tag};
-use hx_run::compile;
+use hx_run::executable_of;
 use std::alloc::Global;
 use std::process::Abort;
 use std::test::Fail;
 
-fn code_of(alloc: Global, source: &[u8]) -> Result<Code, Fail> {
-    match compile(alloc, source) {
+fn code_of(alloc: Global, source: &[u8]) -> Result<Executable, Fail> {
+    match executable_of(alloc, source) {
         Ok(code) => Ok(code),
         Err(_) => Err(Fail::from("refused")),
     }
 }
 
 // Where each iteration of the only region begins.
-fn start_of(alloc: Global, code: &Code) -> Result<Local, Fail>
+fn start_of(alloc: Global, code: &Executable) -> Result<Local, Fail>
     ensures { IfOk result (λ l. FitsLocal code.now l) }
 {
     if code.regions().len() != 1 {
@@ -120,7 +120,7 @@ fn what_waits_goes_on_behind(rt: HostRuntime) -> Result<(), Fail> {
     Ok(())
 }
 
-fn are_one_code(rt: &impl Abort, one: &Code, other: &Code, wanted: bool) {
+fn are_one_code(rt: &impl Abort, one: &Executable, other: &Executable, wanted: bool) {
     assert_eq!(rt; one.is_same(other), wanted);
 }
 

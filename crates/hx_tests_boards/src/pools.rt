@@ -3,10 +3,10 @@
 ghost use Rattle.std.specs.Prelude.{◌≡◌};
 
 use hx_board::Job;
-use hx_code::code::Code;
+use hx_exec::executable::Executable;
 use hx_code::word::Exit;
 use hx_pool::{Unwatched, run_region};
-use hx_run::compile;
+use hx_run::executable_of;
 use hx_tree::outcome::Settings;
 use hx_word::entry::RegionEnd;
 use hx_word::plain::{Open, Paused, Plain};
@@ -19,7 +19,7 @@ use std::thread::Threads;
 fn ended<W: Threads + Wait + Sync>(
     rt: &W,
     alloc: Global,
-    code: &Code,
+    code: &Executable,
     opened: &Open<'_>,
 ) -> Result<RegionEnd, Fail>
     requires { opened.now.code ≡ code.now }
@@ -44,7 +44,7 @@ fn ended<W: Threads + Wait + Sync>(
 fn first_ended<W: Threads + Wait + Sync>(
     rt: &W,
     alloc: Global,
-    code: &Code,
+    code: &Executable,
 ) -> Result<RegionEnd, Fail> {
     let Ok(plain) = Plain::new(alloc, code, &[]) else {
         return Err(Fail::from("no machine"));
@@ -55,9 +55,9 @@ fn first_ended<W: Threads + Wait + Sync>(
     }
 }
 
-fn sum_of_a_hundred(alloc: Global) -> Result<Code, Fail> {
+fn sum_of_a_hundred(alloc: Global) -> Result<Executable, Fail> {
     let source = b"int main(){ int s=0; pfor(int i=1;i<=100;i++) s+=i; print(s); }";
-    match compile(alloc, source) {
+    match executable_of(alloc, source) {
         Ok(code) => Ok(code),
         Err(_) => Err(Fail::from("refused")),
     }

@@ -3,9 +3,9 @@
 ghost use Rattle.std.specs.Prelude.{◌≡◌, IfOk};
 ghost use Rattle.hx_word.specs.Entry.{EndFits};
 
-use hx_code::code::Code;
+use hx_exec::executable::Executable;
 use hx_code::word::Exit;
-use hx_run::compile;
+use hx_run::executable_of;
 use hx_tree::outcome::End;
 use hx_word::entry::RegionEnd;
 use hx_word::plain::{Open, Paused, Plain, PlainError, Ran, Reached};
@@ -15,8 +15,8 @@ use std::test::Fail;
 
 // The code of two turns: the first word opens the region, each turn takes nine and `leave` after the last test
 // five, and then `const 0` and `ret` are left.
-fn two_turns(alloc: Global) -> Result<Code, Fail> {
-    match compile(alloc, b"int c; int main(){ pwhile(c<2){ c=c+1; } }") {
+fn two_turns(alloc: Global) -> Result<Executable, Fail> {
+    match executable_of(alloc, b"int c; int main(){ pwhile(c<2){ c=c+1; } }") {
         Ok(code) => Ok(code),
         Err(_) => Err(Fail::from("refused")),
     }
@@ -24,7 +24,7 @@ fn two_turns(alloc: Global) -> Result<Code, Fail> {
 
 // How a search for the n-th region comes out: 0 at it, 1 ended before, 2 neither; and the entry's words in the
 // store, private words, depth and printed bytes.
-fn search(alloc: Global, code: &Code, n: u64, steps: u64) -> Result<(u8, [usize; 4]), Fail> {
+fn search(alloc: Global, code: &Executable, n: u64, steps: u64) -> Result<(u8, [usize; 4]), Fail> {
     let Ok(plain) = Plain::new(alloc, code, &[]) else {
         return Err(Fail::from("no machine"));
     };
@@ -67,7 +67,7 @@ type RegionTold = (Exit, [usize; 3], [u64; 2]);
 
 // The end of the region that opened, run by itself: it goes on after so many words, and ends with one
 // more.
-fn by_itself(alloc: Global, code: &Code, at: &Open, steps: u64) -> Result<RegionTold, Fail>
+fn by_itself(alloc: Global, code: &Executable, at: &Open, steps: u64) -> Result<RegionTold, Fail>
     requires { at.now.code ≡ code.now }
 {
     let entry = at.entry(alloc)?;
@@ -90,7 +90,7 @@ fn by_itself(alloc: Global, code: &Code, at: &Open, steps: u64) -> Result<Region
 }
 
 // The first region of a code, run by itself.
-fn first_region(alloc: Global, code: &Code, steps: u64) -> Result<RegionTold, Fail> {
+fn first_region(alloc: Global, code: &Executable, steps: u64) -> Result<RegionTold, Fail> {
     let Ok(plain) = Plain::new(alloc, code, &[]) else {
         return Err(Fail::from("no machine"));
     };
@@ -142,7 +142,7 @@ fn input_without_its_array_is_refused(rt: HostRuntime) -> Result<(), Fail> {
 type Told = (End, Option<i32>, [u64; 2]);
 
 // The end of the region that opened, run by itself.
-fn end_of(alloc: Global, code: &Code, at: &Open) -> Result<RegionEnd, Fail>
+fn end_of(alloc: Global, code: &Executable, at: &Open) -> Result<RegionEnd, Fail>
     requires { at.now.code ≡ code.now }
     ensures { IfOk result (λ end. EndFits at.now.code at.now.region.opened at.now.outer.text end) }
 {
@@ -156,7 +156,7 @@ fn end_of(alloc: Global, code: &Code, at: &Open) -> Result<RegionEnd, Fail>
 }
 
 // The run behind the region that opened, once that has ended by itself: so many words of it.
-fn behind(alloc: Global, code: &Code, at: Open, steps: u64) -> Result<Option<Told>, Fail>
+fn behind(alloc: Global, code: &Executable, at: Open, steps: u64) -> Result<Option<Told>, Fail>
     requires { at.code ≡ code.now }
 {
     let end = end_of(alloc, code, &at)?;
@@ -171,7 +171,7 @@ fn behind(alloc: Global, code: &Code, at: Open, steps: u64) -> Result<Option<Tol
 }
 
 // Behind the first region of a code.
-fn behind_the_first(alloc: Global, code: &Code, steps: u64) -> Result<Option<Told>, Fail> {
+fn behind_the_first(alloc: Global, code: &Executable, steps: u64) -> Result<Option<Told>, Fail> {
     let Ok(plain) = Plain::new(alloc, code, &[]) else {
         return Err(Fail::from("no machine"));
     };

@@ -4,9 +4,9 @@ ghost use Rattle.std.specs.Prelude.{◌≡◌};
 ghost use Rattle.hx_word.specs.Entry.{EntryFits};
 
 use hx_board::State;
-use hx_code::code::Code;
+use hx_exec::executable::Executable;
 use hx_frame::Capacities;
-use hx_run::compile;
+use hx_run::executable_of;
 use hx_trace::{Trace, TraceError, replay};
 use hx_word::entry::Entry;
 use hx_word::plain::{Open, Paused, Plain};
@@ -39,7 +39,7 @@ const SCANT: Capacities = Capacities {
 // A marked loop as it opens.
 #[derive(Clone, Copy)]
 struct Opening<'a> {
-    code: &'a Code,
+    code: &'a Executable,
     region: u32,
     entry: &'a Entry,
     rooms: Capacities,
@@ -151,7 +151,7 @@ fn all_short(rt: &impl Abort, alloc: Global, at: Opening<'_>) -> Result<(), Fail
 fn all_short_from(
     rt: &impl Abort,
     alloc: Global,
-    code: &Code,
+    code: &Executable,
     opened: &Open<'_>,
     rooms: Capacities,
 ) -> Result<(), Fail>
@@ -171,7 +171,7 @@ fn all_short_from(
 fn all_short_of(
     rt: &impl Abort,
     alloc: Global,
-    code: &Code,
+    code: &Executable,
     rooms: Capacities,
 ) -> Result<(), Fail> {
     let Ok(plain) = Plain::new(alloc, code, &[]) else {
@@ -189,7 +189,7 @@ fn all_short_in(
     source: &[u8],
     rooms: Capacities,
 ) -> Result<(), Fail> {
-    match compile(alloc, source) {
+    match executable_of(alloc, source) {
         Ok(code) => all_short_of(rt, alloc, &code, rooms),
         Err(_) => Err(Fail::from("refused")),
     }

@@ -14,7 +14,7 @@ use crate::answers::{enter, spend};
 use crate::event::Event;
 use crate::worker::{Held, Worker};
 use hx_board::{Board, Head, Job, State};
-use hx_code::code::Code;
+use hx_exec::executable::Executable;
 use hx_frame::{Capacities, Frame};
 use hx_tree::outcome::Counts;
 use hx_word::entry::Entry;
@@ -70,7 +70,7 @@ impl TraceError {
 /// allocation was refused.
 pub fn replay(
     alloc: Global,
-    code: &Code,
+    code: &Executable,
     region: u32,
     entry: &Entry,
     slots: u32,
@@ -95,7 +95,7 @@ pub fn replay(
 /// Refusals are those of `replay`.
 pub fn replay_told(
     alloc: Global,
-    code: &Code,
+    code: &Executable,
     region: u32,
     entry: &Entry,
     slots: u32,
@@ -184,7 +184,7 @@ fn follow<'c>(
 // As many workers, none of which runs.
 fn new_workers<'c>(
     alloc: Global,
-    code: &'c Code,
+    code: &'c Executable,
     slots: u32,
     capacities: Capacities,
 ) -> Result<Vec<Worker<'c>>, AllocError>

@@ -7,7 +7,7 @@ ghost use Rattle.hx_word.specs.Entry.{privates_in, EntryFits, IsEntryOf, opened_
 ghost use Rattle.hx_word.specs.Running.{IsOpened};
 
 use crate::opened::Opened;
-use hx_code::code::Code;
+use hx_exec::executable::Executable;
 use hx_code::table::Spot;
 use hx_code::word::Exit;
 use hx_tree::outcome::Counts;
@@ -35,7 +35,7 @@ pub struct RegionEnd {
 }
 
 /// How many private words the function of a region has.
-pub fn privates_of(code: &Code, region: u32) -> usize
+pub fn privates_of(code: &Executable, region: u32) -> usize
     requires { region < length code.now.regions }
     ensures same { result ≡ privates_in code.now region }
     ensures few { result ≤ 64 }
@@ -46,7 +46,7 @@ pub fn privates_of(code: &Code, region: u32) -> usize
 }
 
 // What is told of a place.
-fn spot_at(code: &Code, place: u32) -> Spot
+fn spot_at(code: &Executable, place: u32) -> Spot
     requires { place < length code.now.spots }
     ensures { slice_get code.now.spots place ≡ Some result }
 {
@@ -56,7 +56,7 @@ fn spot_at(code: &Code, place: u32) -> Spot
 /// The entry of a region that has opened over a store.
 pub fn entry_of(
     alloc: Global,
-    code: &Code,
+    code: &Executable,
     opened: &Opened,
     store: &[i32],
 ) -> Result<Entry, AllocError>
@@ -82,7 +82,7 @@ pub fn put_words(locals: &[i32], words: &mut [i32; 64])
 }
 
 /// How a region was opened that has this entry.
-pub fn opened_by(code: &Code, region: u32, entry: &Entry) -> Opened
+pub fn opened_by(code: &Executable, region: u32, entry: &Entry) -> Opened
     requires { EntryFits code.now region entry.now }
     ensures opened { opened_of result ≡ opened_from region entry.now }
     ensures fits { IsOpened code.now (opened_of result) }

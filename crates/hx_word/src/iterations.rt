@@ -7,8 +7,8 @@ ghost use Rattle.hx_word.specs.Running.{running, IsOpened, RunsWell, BeforeLast}
 
 use crate::opened::Opened;
 use crate::text::print;
-use hx_code::code::Code;
-use hx_code::local::Local;
+use hx_exec::executable::Executable;
+use hx_exec::local::Local;
 use hx_code::word::{Ask, Exit};
 use hx_tree::limits::TEXT_LIMIT;
 use hx_tree::outcome::{Fault, FaultKind};
@@ -34,7 +34,7 @@ pub struct Iterated {
 
 impl Iterations {
     /// Room for a region that is still to open.
-    pub(crate) fn new(alloc: Global, code: &Code) -> Result<Iterations, AllocError>
+    pub(crate) fn new(alloc: Global, code: &Executable) -> Result<Iterations, AllocError>
         ensures { IfOk result (λ i. TEXT_LIMIT ≤ vec_capacity i.text) }
     {
         Ok(Iterations {
@@ -52,7 +52,7 @@ impl Iterations {
     }
 
     // Iteration j begins.
-    fn begin(&mut self, code: &Code, j: u64)
+    fn begin(&mut self, code: &Executable, j: u64)
         requires { IsOpened code.now (opened_of self.old.opened) }
         ensures { self.new ≡ record self.old { number = j; local = opening code.now (opened_of self.old.opened) j } }
     {
@@ -63,7 +63,7 @@ impl Iterations {
     }
 
     /// A region opens: its first iteration begins, without text of its own.
-    pub(crate) fn open(&mut self, code: &Code, opened: Opened)
+    pub(crate) fn open(&mut self, code: &Executable, opened: Opened)
         requires { IsOpened code.now (opened_of opened) }
         ensures same { (store : List ℤ) → running self.new store None ≡ region_opening code.now (opened_of opened) store }
         ensures room { vec_capacity self.new.text ≡ vec_capacity self.old.text }
@@ -90,7 +90,7 @@ impl Iterations {
     }
 
     /// Does words of the region, up to so many or to its end.
-    pub(crate) fn run(&mut self, code: &Code, store: &mut [i32], steps: u64) -> Iterated
+    pub(crate) fn run(&mut self, code: &Executable, store: &mut [i32], steps: u64) -> Iterated
         requires well { RunsWell code.now (running self.old store.old None) }
         requires room { TEXT_LIMIT ≤ vec_capacity self.old.text }
         ensures ran { region_after code.now result.words (running self.old store.old None) ≡ running self.new store.new result.exit }

@@ -15,9 +15,9 @@ mod state;
 pub mod text;
 
 pub use entry::{Entry, RegionEnd};
-pub use hx_code::Stretched;
-pub use hx_code::code::Code;
-pub use hx_code::local::Local;
+pub use hx_exec::Stretched;
+pub use hx_exec::executable::Executable;
+pub use hx_exec::local::Local;
 pub use hx_code::table::{Carried, Func, Region, Spot, Tables};
 pub use hx_code::validate::validate;
 pub use hx_code::word::{Array, Ask, Exit, Next, Output, Word};

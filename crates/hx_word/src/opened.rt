@@ -5,7 +5,7 @@ ghost use Rattle.hx_code.specs.Code.{store_words};
 ghost use Rattle.hx_word.specs.Opening.{WordsAfter};
 
 use crate::carry::load_cells;
-use hx_code::code::Code;
+use hx_exec::executable::Executable;
 use hx_code::counter::set_counter;
 use hx_code::word::Exit;
 
@@ -22,7 +22,7 @@ pub struct Opened {
 /// The private words of the call that opened the region, once it has ended: only one that is left
 /// gives its cells back, and its counter as it was in the iteration that left it.
 pub fn words_behind(
-    code: &Code,
+    code: &Executable,
     opened: &Opened,
     exit: Exit,
     iteration: u64,

@@ -3,11 +3,11 @@
 ghost use Rattle.std.specs.Prelude.{◌≡◌, ◌≤◌, ◌++◌, IfOk, replicate, pos};
 ghost use Rattle.hx_code.specs.Machine.{InputFits, room_for_input, opening_store as store_of, filled};
 
-use hx_code::code::Code;
+use hx_exec::executable::Executable;
 use std::alloc::{AllocError, Global};
 
 /// How many words of the input there is room for.
-pub(crate) fn room_for(code: &Code) -> usize
+pub(crate) fn room_for(code: &Executable) -> usize
     ensures { result ≡ room_for_input code.now }
 {
     match code.input() {
@@ -19,7 +19,7 @@ pub(crate) fn room_for(code: &Code) -> usize
 /// The globals with the input in its array and its length in the word for it, and then the cells.
 pub(crate) fn opening_store(
     alloc: Global,
-    code: &Code,
+    code: &Executable,
     input: &[i32],
 ) -> Result<Vec<i32>, AllocError>
     requires { InputFits code.now input.now }
@@ -35,7 +35,7 @@ pub(crate) fn opening_store(
 }
 
 // The globals with the input in its array.
-fn filled_globals(alloc: Global, code: &Code, input: &[i32]) -> Result<Vec<i32>, AllocError>
+fn filled_globals(alloc: Global, code: &Executable, input: &[i32]) -> Result<Vec<i32>, AllocError>
     requires { InputFits code.now input.now }
     ensures { IfOk result (λ s. s.items ≡ filled code.now.input input.now code.now.opening) }
 {

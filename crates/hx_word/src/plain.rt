@@ -13,8 +13,8 @@ use crate::iterations::Iterations;
 use crate::opening::{opening_store, room_for};
 use crate::room::refill_entry;
 use crate::state::State;
-use hx_code::code::Code;
-use hx_code::local::Local;
+use hx_exec::executable::Executable;
+use hx_exec::local::Local;
 use hx_tree::limits::TEXT_LIMIT;
 use hx_tree::outcome::{Counts, Outcome};
 use std::alloc::{AllocError, Global};
@@ -24,7 +24,7 @@ use std::marker::Model;
 /// after another. Contracts see its code and its machine.
 #[derive(Drop)]
 pub struct Plain<'c> {
-    code: &'c Code,
+    code: &'c Executable,
     state: State,
 }
 
@@ -87,7 +87,7 @@ pub enum Reached {
 /// and the region.
 #[derive(Drop)]
 pub struct Open<'c> {
-    code: &'c Code,
+    code: &'c Executable,
     state: State,
 }
 
@@ -146,7 +146,7 @@ impl<'c> Open<'c> {
 impl<'c> Plain<'c> {
     /// The machine before its first word. It makes the room for all that comes.
     /// Refusals: 61 exactly where the input is longer than its array, and 62 memory.
-    pub fn new(alloc: Global, code: &'c Code, input: &[i32]) -> Result<Plain<'c>, PlainError>
+    pub fn new(alloc: Global, code: &'c Executable, input: &[i32]) -> Result<Plain<'c>, PlainError>
         ensures opening { IfOk result (λ p. p ≡ record { code = code.now; machine = opening_machine code.now input.now }) }
         ensures fits { OnOk result (InputFits code.now input.now) }
         ensures unfit { IsErrOf result PlainError.InputUnfit ↔ (room_for_input code.now < length input.now) }
@@ -238,7 +238,7 @@ impl<'c> Plain<'c> {
 }
 
 // The entry of the region that runs.
-fn region_entry(alloc: Global, code: &Code, state: &State) -> Result<Entry, AllocError>
+fn region_entry(alloc: Global, code: &Executable, state: &State) -> Result<Entry, AllocError>
     requires inside { state.now.is_inside ≡ true }
     requires goes { state.now.end ≡ None }
     requires well { StandsWell code.now (machine_of state.now) }
@@ -251,7 +251,7 @@ fn region_entry(alloc: Global, code: &Code, state: &State) -> Result<Entry, Allo
 }
 
 // The entry of the region that runs, in place of another.
-fn region_entry_into(code: &Code, state: &State, entry: &mut Entry)
+fn region_entry_into(code: &Executable, state: &State, entry: &mut Entry)
     requires inside { state.now.is_inside ≡ true }
     requires goes { state.now.end ≡ None }
     requires well { StandsWell code.now (machine_of state.now) }

@@ -10,7 +10,7 @@ use crate::entry::{Entry, RegionEnd, opened_by};
 use crate::iterations::Iterations;
 use crate::opened::words_behind;
 use crate::room::{plain_counts, refill_text, refill_words};
-use hx_code::code::Code;
+use hx_exec::executable::Executable;
 use hx_code::word::Exit;
 use hx_tree::limits::PRIVATE_LIMIT;
 use std::alloc::{AllocError, Global};
@@ -20,7 +20,7 @@ use std::marker::Model;
 /// the region is, and how many private words the entry had.
 #[derive(Drop)]
 pub struct RegionRun<'c> {
-    code: &'c Code,
+    code: &'c Executable,
     iterations: Iterations,
     store: Vec<i32>,
     locals: Vec<i32>,
@@ -42,7 +42,7 @@ impl<'c> RegionRun<'c> {
     /// The region as its first iteration begins. It makes the room for all that comes.
     pub fn new(
         alloc: Global,
-        code: &'c Code,
+        code: &'c Executable,
         region: u32,
         entry: &Entry,
     ) -> Result<RegionRun<'c>, AllocError>

@@ -8,7 +8,7 @@ ghost use Rattle.hx_word.specs.Rooms.{IsBlank, HasEntryRoom, HasEndRoom};
 
 use crate::entry::{Entry, RegionEnd, privates_of};
 use crate::opened::Opened;
-use hx_code::code::Code;
+use hx_exec::executable::Executable;
 use hx_code::word::Exit;
 use hx_tree::limits::{PRIVATE_LIMIT, TEXT_LIMIT};
 use hx_tree::outcome::Counts;
@@ -17,7 +17,7 @@ use std::alloc::{AllocError, Global};
 impl Entry {
     /// An entry of a region of the code, with words 0, depth 1 and no text before it. It has room for an entry of each region of the
     /// code.
-    pub fn with_room(alloc: Global, code: &Code, region: u32) -> Result<Entry, AllocError>
+    pub fn with_room(alloc: Global, code: &Executable, region: u32) -> Result<Entry, AllocError>
         requires { region < length code.now.regions }
         ensures fits { IfOk result (EntryFits code.now region) }
         ensures blank { IfOk result (IsBlank code.now region) }
@@ -41,7 +41,7 @@ impl Entry {
 
 impl RegionEnd {
     /// An end without words and text, which has room for an end of each region of the code.
-    pub fn with_room(alloc: Global, code: &Code) -> Result<RegionEnd, AllocError>
+    pub fn with_room(alloc: Global, code: &Executable) -> Result<RegionEnd, AllocError>
         ensures { IfOk result (HasEndRoom code.now) }
     {
         Ok(RegionEnd {
@@ -96,7 +96,7 @@ pub fn refill_text(kept: &mut Vec<u8>, text: &[u8])
 }
 
 /// The entry of a region that has opened over a store, in place of another.
-pub(crate) fn refill_entry(code: &Code, opened: &Opened, store: &[i32], entry: &mut Entry)
+pub(crate) fn refill_entry(code: &Executable, opened: &Opened, store: &[i32], entry: &mut Entry)
     requires region { opened.now.region < length code.now.regions }
     requires below { opened.now.below < 64 }
     requires words { length opened.now.words ≡ 64 }
