@@ -1,5 +1,5 @@
 -- Worked rows: the conditional operator and `do`. Trees of small sources, what they mean, how one is spelled, and what is refused.
-use Rattle.std.specs.Prelude.{◌≡◌, ℕ, zero, suc, ◌≤◌, ◌++◌, true, false, List, [], ◌∷◌, flat_map, map, ℤ, pos, negsuc, Some, None, codes, refl}
+use Rattle.std.specs.Prelude.{◌≡◌, ℕ, zero, suc, ◌≤◌, ◌++◌, true, List, [], ◌∷◌, flat_map, map, ℤ, pos, Some, None, codes, refl}
 use Rattle.std.specs.Fmt.{signed_decimal, digits}
 use Rattle.std.specs.Int.{int_wrap}
 use Rattle.std.proofs.Common.{arith}
@@ -11,7 +11,7 @@ use Rattle.hx_tree.specs.declared.tree.BinaryOp.TheVariants as binary
 use Rattle.hx_tree.specs.declared.tree.Operator.TheVariants as op
 use Rattle.hx_tree.specs.declared.outcome.End.TheVariants as end
 use Rattle.hx_tree.specs.declared.outcome.FaultKind.TheVariants as fault
-use Rattle.hx_tree.specs.Tree.{Expr, Number, Variable, Call, Binary, Conditional, no_exprs, exprs, ToVariable, Set, Update, Increment, InitLocals, Block, Assign, Print, If, DoWhile, For, Break, Continue, Return, Locals, Statement, no_parts, parts, Scalar, NoParams, Globals, Function, Program}
+use Rattle.hx_tree.specs.Tree.{Expr, Number, Variable, Call, Binary, Conditional, no_exprs, ToVariable, Update, Increment, InitLocals, Block, Assign, Print, If, DoWhile, For, Break, Continue, Return, Locals, Statement, no_parts, parts, Scalar, NoParams, Globals, Function, Program}
 use Rattle.hx_tree.specs.Lexis.{Piece, Falls, tokens_of, first_place, class_of, keyword_of, punctuator_at, constant_of, close_len, Token}
 use Rattle.hx_tree.specs.Grammar.{Spells, IsProgram, IsExprOf}
 use Rattle.hx_tree.specs.Meaning.{meaning, functions_of}
