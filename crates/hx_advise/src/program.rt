@@ -188,7 +188,12 @@ fn has_ended(plain: Plain<'_>) -> bool
 /// within its words, and else as many as may be, but for 255 for each loop that was opened.
 ///
 /// `InputUnfit` exactly where the input is longer than its array; another error is want of memory.
-pub fn advise(alloc: Global, code: &Executable, input: &[i32], steps: u64) -> Result<Advice, PlainError>
+pub fn advise(
+    alloc: Global,
+    code: &Executable,
+    input: &[i32],
+    steps: u64,
+) -> Result<Advice, PlainError>
     ensures advice { IfOk result (IsAdvice code.now (opening_machine code.now input.now) steps) }
     ensures fits { OnOk result (InputFits code.now input.now) }
     ensures unfit { IsErrOf result PlainError.InputUnfit ↔ (room_for_input code.now < length input.now) }

@@ -9,9 +9,9 @@ ghost use Rattle.hx_advise.specs.Course.{Keeps, Followed};
 ghost use Rattle.hx_advise.specs.Regions.{IsWatched, IsVerdict};
 
 use crate::watch::Watch;
+use hx_code::word::Ask;
 use hx_exec::executable::Executable;
 use hx_exec::local::Local;
-use hx_code::word::Ask;
 use hx_tree::limits::TEXT_LIMIT;
 use hx_word::entry::{Entry, opened_by};
 use hx_word::opened::Opened;

@@ -1,9 +1,9 @@
 // Four codes, each of which runs on and on.
 
-use hx_code::code::Code;
 use hx_code::table::{Func, Spot, Tables};
 use hx_code::validate::validate;
 use hx_code::word::{Array, Word};
+use hx_exec::executable::Executable;
 use hx_tree::token::Pos;
 use hx_tree::tree::Operator;
 use std::alloc::{AllocError, Global};
@@ -167,8 +167,8 @@ fn function(name: Vec<u8>, entry: u32, parameters: u32, privates: u32) -> Func {
     }
 }
 
-/// The code, or none where the validator refuses it, which it doesn't.
-pub(crate) fn code_of(alloc: Global, sketch: Sketch) -> Result<Option<Code>, AllocError> {
+/// The code with its instructions, or none where the validator refuses it, which it doesn't.
+pub(crate) fn code_of(alloc: Global, sketch: Sketch) -> Result<Option<Executable>, AllocError> {
     let mut words = Vec::new(alloc);
     let mut spots = Vec::new(alloc);
     let mut functions = Vec::new(alloc);
@@ -194,7 +194,7 @@ pub(crate) fn code_of(alloc: Global, sketch: Sketch) -> Result<Option<Code>, All
         input_length: None,
     };
     match validate(words, tables) {
-        Some(code) => Ok(Some(code.with_shortcuts(alloc)?)),
+        Some(code) => Ok(Some(Executable::new(alloc, code)?)),
         None => Ok(None),
     }
 }

@@ -10,9 +10,9 @@ ghost use Rattle.hx_frame.specs.Frame.{FrameView, stop_of, action_of, waiting_as
 use crate::action::{Action, Need, Stop, waits_with};
 use crate::words::run_words;
 use hx_buffer::WriteBuffer;
+use hx_code::word::Ask;
 use hx_exec::executable::Executable;
 use hx_exec::local::Local;
-use hx_code::word::Ask;
 use hx_marks::Marks;
 use std::alloc::{AllocError, Global};
 use std::marker::Model;

@@ -8,9 +8,9 @@ ghost use Rattle.hx_frame.specs.Words.{RanTo};
 
 use crate::action::Need;
 use hx_buffer::WriteBuffer;
+use hx_code::word::Ask;
 use hx_exec::executable::Executable;
 use hx_exec::local::Local;
-use hx_code::word::Ask;
 use hx_marks::Marks;
 
 // A word of the store, if the iteration has written it, or else if it has read it.

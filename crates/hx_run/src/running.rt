@@ -269,7 +269,12 @@ pub enum PlainRan {
 }
 
 // Runs code for at most so many words.
-fn run_code_for(alloc: Global, code: &Executable, input: &[i32], steps: u64) -> Result<PlainRan, Refusal>
+fn run_code_for(
+    alloc: Global,
+    code: &Executable,
+    input: &[i32],
+    steps: u64,
+) -> Result<PlainRan, Refusal>
     ensures ran { IfOk result (PlainlySo code.now input.now steps) }
     ensures fits { OnOk result (InputFits code.now input.now) }
     ensures refused { IfErr result (RefusesInput code.now input.now) }

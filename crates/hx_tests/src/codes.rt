@@ -2,10 +2,12 @@
 
 use crate::stages::compile;
 use hx_code::code::Code;
-use hx_code::local::Local;
 use hx_code::table::{Carried, Func, Induct, Region, Spot, Tables};
 use hx_code::validate::validate;
 use hx_code::word::{Array, Ask, Output, Word};
+use hx_exec::executable::Executable;
+use hx_exec::local::Local;
+use hx_tree::limits::PRIVATE_LIMIT;
 use hx_tree::outcome::{Fault, FaultKind};
 use hx_tree::token::Pos;
 use hx_tree::tree::{Operator, UnaryOp};
@@ -365,20 +367,14 @@ fn main_of(alloc: Global, words: &[Word], heights: &[u32]) -> Result<Option<Code
     Ok(validate(Vec::from_slice(alloc, words)?, tables))
 }
 
-// What a program asks first, if it asks the same with shortcuts.
+// What a program asks first.
 fn asked(alloc: Global, words: &[Word], heights: &[u32]) -> Result<Option<Ask>, AllocError> {
     match main_of(alloc, words, heights)? {
         None => Ok(None),
         Some(code) => {
-            let mut local = Local::new(alloc, &code)?;
-            let ask = local.stretch(&code, 1000).ask;
-            let code = code.with_shortcuts(alloc)?;
-            let mut local = Local::new(alloc, &code)?;
-            if local.stretch(&code, 1000).ask == ask {
-                Ok(Some(ask))
-            } else {
-                Ok(None)
-            }
+            let executable = Executable::new(alloc, code)?;
+            let mut local = Local::new(alloc, &executable)?;
+            Ok(Some(local.stretch(&executable, 1000).ask))
         }
     }
 }
@@ -520,8 +516,9 @@ fn first_of(alloc: Global, source: &[u8]) -> Result<(Ask, u64, usize), Fail> {
     match compile(alloc, source) {
         Err(_) => Err(Fail::from("refused")),
         Ok(code) => {
-            let mut local = Local::new(alloc, &code)?;
-            let done = local.stretch(&code, 1000);
+            let executable = Executable::new(alloc, code)?;
+            let mut local = Local::new(alloc, &executable)?;
+            let done = local.stretch(&executable, 1000);
             Ok((done.ask, done.words, local.calls()))
         }
     }
@@ -546,9 +543,14 @@ fn the_sixty_fifth_call_is_a_fault(rt: HostRuntime) -> Result<(), Fail> {
     Ok(())
 }
 
+fn executable_of(alloc: Global) -> Result<Executable, Fail> {
+    let code = code_of(alloc, Flaw::None)?.ok_or("valid")?;
+    Ok(Executable::new(alloc, code)?)
+}
+
 // The words 5 and 6 at 2 and 1.
-fn words_at_two_and_one() -> [i32; 64] {
-    let mut words = [0; 64];
+fn words_at_two_and_one() -> [i32; PRIVATE_LIMIT] {
+    let mut words = [0; PRIVATE_LIMIT];
     words[2] = 5;
     words[1] = 6;
     words
@@ -557,7 +559,7 @@ fn words_at_two_and_one() -> [i32; 64] {
 // Main of `pwhile(c<2) c=c+1;` opens the region, and is left behind it.
 #[test]
 fn a_region_is_opened_and_left(rt: HostRuntime) -> Result<(), Fail> {
-    let code = code_of(rt.alloc(), Flaw::None)?.ok_or("valid")?;
+    let code = executable_of(rt.alloc())?;
     let mut local = Local::new(rt.alloc(), &code)?;
     assert_eq!(rt; local.stretch(&code, 1000).ask, Ask::Enters(0, 11));
     let mut copy = Local::new(rt.alloc(), &code)?;
@@ -568,7 +570,7 @@ fn a_region_is_opened_and_left(rt: HostRuntime) -> Result<(), Fail> {
 }
 
 // What an iteration of it asks first, with its calls, the calls below it and two of its private words.
-fn iteration_asks(alloc: Global, code: &Code) -> Result<(Ask, [usize; 2], [i32; 2]), Fail> {
+fn iteration_asks(alloc: Global, code: &Executable) -> Result<(Ask, [usize; 2], [i32; 2]), Fail> {
     if code.regions().len() == 0 {
         return Err(Fail::from("no region"));
     }
@@ -580,12 +582,12 @@ fn iteration_asks(alloc: Global, code: &Code) -> Result<(Ask, [usize; 2], [i32; 
 }
 
 // What it asks once it has the word that it asked for, after two words more.
-fn iteration_goes_on(alloc: Global, code: &Code) -> Result<Ask, Fail> {
+fn iteration_goes_on(alloc: Global, code: &Executable) -> Result<Ask, Fail> {
     if code.regions().len() == 0 {
         return Err(Fail::from("no region"));
     }
     let mut iteration = Local::new(alloc, code)?;
-    iteration.begin(code, 0, 0, &[0; 64], 0);
+    iteration.begin(code, 0, 0, &[0; PRIVATE_LIMIT], 0);
     let loads = iteration.stretch(code, 1000);
     match loads.ask {
         Ask::Loads(_) => {
@@ -598,7 +600,7 @@ fn iteration_goes_on(alloc: Global, code: &Code) -> Result<Ask, Fail> {
 
 #[test]
 fn an_iteration_asks_for_its_words(rt: HostRuntime) -> Result<(), Fail> {
-    let code = code_of(rt.alloc(), Flaw::None)?.ok_or("valid")?;
+    let code = executable_of(rt.alloc())?;
     let wanted = (Ask::Loads(0), [1, 0], [0, 5]);
     assert_eq!(rt; iteration_asks(rt.alloc(), &code)?, wanted);
     assert_eq!(rt; iteration_goes_on(rt.alloc(), &code)?, Ask::Goes);

@@ -3,8 +3,8 @@
 ghost use Rattle.std.specs.Prelude.{◌≡◌};
 
 use hx_board::Job;
-use hx_exec::executable::Executable;
 use hx_code::word::Exit;
+use hx_exec::executable::Executable;
 use hx_pool::{Unwatched, run_region};
 use hx_run::executable_of;
 use hx_tree::outcome::Settings;

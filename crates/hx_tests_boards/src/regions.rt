@@ -3,8 +3,8 @@
 ghost use Rattle.std.specs.Prelude.{◌≡◌, IfOk};
 ghost use Rattle.hx_word.specs.Entry.{EndFits};
 
-use hx_exec::executable::Executable;
 use hx_code::word::Exit;
+use hx_exec::executable::Executable;
 use hx_run::executable_of;
 use hx_tree::outcome::End;
 use hx_word::entry::RegionEnd;

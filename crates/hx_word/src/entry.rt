@@ -7,9 +7,10 @@ ghost use Rattle.hx_word.specs.Entry.{privates_in, EntryFits, IsEntryOf, opened_
 ghost use Rattle.hx_word.specs.Running.{IsOpened};
 
 use crate::opened::Opened;
-use hx_exec::executable::Executable;
 use hx_code::table::Spot;
 use hx_code::word::Exit;
+use hx_exec::executable::Executable;
+use hx_tree::limits::PRIVATE_LIMIT;
 use hx_tree::outcome::Counts;
 use std::alloc::{AllocError, Global};
 
@@ -74,7 +75,7 @@ pub fn entry_of(
 }
 
 /// Private words from their beginning, in place of others.
-pub fn put_words(locals: &[i32], words: &mut [i32; 64])
+pub fn put_words(locals: &[i32], words: &mut [i32; PRIVATE_LIMIT])
     requires { length locals.now ≤ 64 }
     ensures { words.new ≡ locals.now ++ drop (length locals.now) words.old }
 {
@@ -88,7 +89,7 @@ pub fn opened_by(code: &Executable, region: u32, entry: &Entry) -> Opened
     ensures fits { IsOpened code.now (opened_of result) }
 {
     code.known();
-    let mut words = [0; 64];
+    let mut words = [0; PRIVATE_LIMIT];
     put_words(&entry.locals, &mut words);
     Opened {
         region,

@@ -7,10 +7,10 @@ ghost use Rattle.hx_word.specs.Running.{running, IsOpened, RunsWell, BeforeLast}
 
 use crate::opened::Opened;
 use crate::text::print;
+use hx_code::word::{Ask, Exit};
 use hx_exec::executable::Executable;
 use hx_exec::local::Local;
-use hx_code::word::{Ask, Exit};
-use hx_tree::limits::TEXT_LIMIT;
+use hx_tree::limits::{PRIVATE_LIMIT, TEXT_LIMIT};
 use hx_tree::outcome::{Fault, FaultKind};
 use std::alloc::{AllocError, Global};
 
@@ -41,7 +41,7 @@ impl Iterations {
             opened: Opened {
                 region: 0,
                 below: 0,
-                words: [0; 64],
+                words: [0; PRIVATE_LIMIT],
                 printed: 0,
             },
             number: 0,

@@ -15,11 +15,11 @@ mod state;
 pub mod text;
 
 pub use entry::{Entry, RegionEnd};
-pub use hx_exec::Stretched;
-pub use hx_exec::executable::Executable;
-pub use hx_exec::local::Local;
 pub use hx_code::table::{Carried, Func, Region, Spot, Tables};
 pub use hx_code::validate::validate;
 pub use hx_code::word::{Array, Ask, Exit, Next, Output, Word};
+pub use hx_exec::Stretched;
+pub use hx_exec::executable::Executable;
+pub use hx_exec::local::Local;
 pub use plain::{Open, Paused, Plain, PlainError, Ran, Reached};
 pub use region_run::RegionRun;

@@ -5,9 +5,10 @@ ghost use Rattle.hx_code.specs.Code.{store_words};
 ghost use Rattle.hx_word.specs.Opening.{WordsAfter};
 
 use crate::carry::load_cells;
-use hx_exec::executable::Executable;
 use hx_code::counter::set_counter;
 use hx_code::word::Exit;
+use hx_exec::executable::Executable;
+use hx_tree::limits::PRIVATE_LIMIT;
 
 /// A region that was opened: its number, how many calls are below the one that opened it, the private
 /// words of that call, and how many bytes were printed before.
@@ -15,7 +16,7 @@ use hx_code::word::Exit;
 pub struct Opened {
     pub region: u32,
     pub below: usize,
-    pub words: [i32; 64],
+    pub words: [i32; PRIVATE_LIMIT],
     pub printed: usize,
 }
 
@@ -27,7 +28,7 @@ pub fn words_behind(
     exit: Exit,
     iteration: u64,
     store: &[i32],
-) -> [i32; 64]
+) -> [i32; PRIVATE_LIMIT]
     requires region { opened.now.region < length code.now.regions }
     requires store { length store.now ≡ store_words code.now }
     ensures { WordsAfter code.now exit opened.now iteration store.now result }

@@ -4,6 +4,7 @@ ghost use Rattle.std.specs.Prelude.{◌≡◌, ◌≤◌, ◌++◌, IfOk, replic
 ghost use Rattle.hx_code.specs.Machine.{InputFits, room_for_input, opening_store as store_of, filled};
 
 use hx_exec::executable::Executable;
+use hx_tree::limits::CELL_LIMIT;
 use std::alloc::{AllocError, Global};
 
 /// How many words of the input there is room for.
@@ -30,7 +31,7 @@ pub(crate) fn opening_store(
     if let Some(word) = code.input_length() {
         store[word as usize] = input.len() as i32;
     }
-    store.extend_from_slice(&[0; 64])?;
+    store.extend_from_slice(&[0; CELL_LIMIT])?;
     Ok(store)
 }
 
@@ -41,7 +42,7 @@ fn filled_globals(alloc: Global, code: &Executable, input: &[i32]) -> Result<Vec
 {
     code.known();
     let opening = code.opening();
-    let mut store = Vec::with_capacity(alloc, opening.len() + 64)?;
+    let mut store = Vec::with_capacity(alloc, opening.len() + CELL_LIMIT)?;
     match code.input() {
         None => store.extend_from_slice(opening)?,
         Some(array) => {

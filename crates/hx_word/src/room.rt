@@ -8,8 +8,8 @@ ghost use Rattle.hx_word.specs.Rooms.{IsBlank, HasEntryRoom, HasEndRoom};
 
 use crate::entry::{Entry, RegionEnd, privates_of};
 use crate::opened::Opened;
-use hx_exec::executable::Executable;
 use hx_code::word::Exit;
+use hx_exec::executable::Executable;
 use hx_tree::limits::{PRIVATE_LIMIT, TEXT_LIMIT};
 use hx_tree::outcome::Counts;
 use std::alloc::{AllocError, Global};
