@@ -1,11 +1,14 @@
 // What a command reads: sources and input texts.
 
-ghost use Rattle.std.specs.Prelude.{◌≡◌, IfOk};
+ghost use Rattle.std.specs.Prelude.{◌≡◌, ◌+◌, ◌-◌, ◌^◌, ◌<◌, ◌≤◌, ◌↔◌, ◌⊎◌, length, IfOk, IfErr, IsErrOf};
+ghost use Rattle.std.specs.Io.KnownBytes.{IsAtEnd};
+ghost use Rattle.hx_tree.specs.declared.limits.TheConstants.{INPUT_LIMIT};
+ghost use Rattle.hx_answer.specs.declared.status.Status.TheVariants as status;
 
 use crate::request::Paths;
 use hx_answer::{Status, tell_memory, tell_read_failed, tell_refusal};
 use hx_case::case_of_input_text;
-use hx_device::{ReadError, Reading, read_all};
+use hx_device::{ByteSource, ReadError, Reading, read_all};
 use hx_run::parse_input;
 use hx_tree::limits::INPUT_LIMIT;
 use std::alloc::{AllocError, Global};
@@ -53,6 +56,30 @@ pub(crate) fn open_source<R: Files + AllocGlobal, E: Write>(
     }
 }
 
+// The bytes of a source of input, or its first 1,048,577: the device status comes exactly where the source has failed.
+fn bytes_of_input<S: ByteSource, E: Write>(
+    alloc: Global,
+    source: &mut S,
+    path: &str,
+    explains: bool,
+    err: &mut E,
+) -> Result<Vec<u8>, Status>
+    requires { S.failures source.old < 2 ^ 64 - 1 }
+    ensures device { IsErrOf result status.Device ↔ (S.failures source.new ≡ S.failures source.old + 1) }
+    ensures refused { IfErr result (λ s. (s ≡ status.Device) ⊎ (s ≡ status.Memory)) }
+    ensures whole { IfOk result (λ v. length v.items ≤ INPUT_LIMIT → IsAtEnd (S.rest source.new)) }
+{
+    match read_all(alloc, source, INPUT_LIMIT + 1) {
+        Ok(text) => Ok(text),
+        Err(ReadError::Failed) => {
+            let status = tell_read_failed(err);
+            tell_more(explains, said_of(alloc, path, b"' can't be read.\n"), err);
+            Err(status)
+        }
+        Err(ReadError::Memory) => Err(tell_memory(err)),
+    }
+}
+
 // The bytes of an input text, or its first 1,048,577.
 fn read_input<R: Files + AllocGlobal, E: Write>(
     rt: &R,
@@ -61,19 +88,7 @@ fn read_input<R: Files + AllocGlobal, E: Write>(
     err: &mut E,
 ) -> Result<Vec<u8>, Status> {
     let mut source = open_source(rt, path, explains, err)?;
-    match read_all(rt.alloc(), &mut source, INPUT_LIMIT + 1) {
-        Ok(text) => Ok(text),
-        Err(ReadError::Failed) => {
-            let status = tell_read_failed(err);
-            tell_more(
-                explains,
-                said_of(rt.alloc(), path, b"' can't be read.\n"),
-                err,
-            );
-            Err(status)
-        }
-        Err(ReadError::Memory) => Err(tell_memory(err)),
-    }
+    bytes_of_input(rt.alloc(), &mut source, path, explains, err)
 }
 
 /// The numbers of the input file, or none where none is named.
