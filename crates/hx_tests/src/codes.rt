@@ -6,6 +6,7 @@ use hx_code::table::{Carried, Func, Induct, Region, Spot, Tables};
 use hx_code::validate::validate;
 use hx_code::word::{Array, Ask, Output, Word};
 use hx_exec::executable::Executable;
+use hx_exec::instruction::Instruction;
 use hx_exec::local::Local;
 use hx_tree::limits::PRIVATE_LIMIT;
 use hx_tree::outcome::{Fault, FaultKind};
@@ -604,5 +605,30 @@ fn an_iteration_asks_for_its_words(rt: HostRuntime) -> Result<(), Fail> {
     let wanted = (Ask::Loads(0), [1, 0], [0, 5]);
     assert_eq!(rt; iteration_asks(rt.alloc(), &code)?, wanted);
     assert_eq!(rt; iteration_goes_on(rt.alloc(), &code)?, Ask::Goes);
+    Ok(())
+}
+
+// How many instructions that aren't stops the code of a source has.
+fn instructions_of(alloc: Global, source: &[u8]) -> Result<usize, Fail> {
+    match compile(alloc, source) {
+        Err(_) => Err(Fail::from("refused")),
+        Ok(code) => {
+            let executable = Executable::new(alloc, code)?;
+            let mut count = 0;
+            for instruction in executable.instructions() {
+                if !matches!(instruction, Instruction::Stop) {
+                    count += 1;
+                }
+            }
+            Ok(count)
+        }
+    }
+}
+
+// The 21 words of this main are eight instructions, and the `ret` that goes by itself.
+#[test]
+fn lowered_code_has_instructions(rt: HostRuntime) -> Result<(), Fail> {
+    let source = b"int total; int main(){ int sum=0; for(int i=0;i<10;i++) sum=sum+i; total=sum; }";
+    assert_eq!(rt; instructions_of(rt.alloc(), source)?, 8);
     Ok(())
 }
