@@ -14,5 +14,5 @@ unreachable-requires c =
 
 pub returns-clause-behaves : goal.returns-clause-behaves
 returns-clause-behaves c =
-    does c.code_behaves.ensures (program_of c.args.checked.now) (resolved_of c.program-program.result.now) c.in_ok-quick-in-Some.quick
-    c.program-program.ensures.accepted c.program-program.ensures.resolved (c.in_ok-quick-in-Some.ensures ∙ c.in-Some.ensures.code ∙ c.in_ok-words.ensures.code)
+    does c.code_behaves.ensures (program_of c.args.checked.now) (resolved_of c.program-program.result.now) c.in-Some.code
+    c.program-program.ensures.accepted c.program-program.ensures.resolved (c.in-Some.ensures.code ∙ c.in_ok-words.ensures.code)
