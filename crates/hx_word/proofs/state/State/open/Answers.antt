@@ -60,7 +60,7 @@ opened_as c =
     let carried = c.deref.ensures.value ∙ ap (λ (g : RegionView). g.carried) (c.behind-code.view_is ∙ sym (the_region code c.args.region c.region_at.result.now c.region_at.ensures)) in
     let store : new ≡ into_cells code.globals (region_of code c.args.region).carried o.words m.store =
     c.store_cells.ensures ∙ same_cells _ _ _ _ _ _ _ _ c.globals-globals.ensures carried c.privates.ensures c.deref_mut.ensures.value in
-    let same = same_opened c.args.region c.below.result c.calls.result c.len.result c.privates.result.now c.args.self.now.calls c.args.self.now.text.items c.below.ensures c.calls.ensures.calls c.privates.ensures (omega (arith, c.len.ensures)) in
+    let same = same_opened c.args.region c.below.result c.calls.result c.len.result c.privates.result c.args.self.now.calls c.args.self.now.text.items c.below.ensures c.calls.ensures.calls c.privates.ensures (omega (arith, c.len.ensures)) in
     let len : length m.store ≡ vec_len c.args.self.now.store = omega (arith, c.deref_mut.ensures.len, ap length c.deref_mut.ensures.value) in
     let long : length new ≡ vec_len c.args.self.now.store = ap length store ∙ length-into code.globals (region_of code c.args.region).carried o.words m.store ∙ len in
     ap (λ st. made st (running c.open.new.self st None)) (with_items_is c.args.self.now.store new long) ∙ ap (made new) (c.open.ensures.same new) ∙ ap (λ o'. made new (region_opening code o' new)) same ∙ ap (λ st. made st (region_opening code o st)) store
