@@ -614,13 +614,12 @@ fn instructions_of(alloc: Global, source: &[u8]) -> Result<usize, Fail> {
         Err(_) => Err(Fail::from("refused")),
         Ok(code) => {
             let executable = Executable::new(alloc, code)?;
-            let mut count = 0;
-            for instruction in executable.instructions() {
-                if !matches!(instruction, Instruction::Stop) {
-                    count += 1;
-                }
-            }
-            Ok(count)
+            let instructions = executable.instructions().iter();
+            Ok(
+                instructions
+                    .filter(|i| !matches!(i, Instruction::Stop))
+                    .count(),
+            )
         }
     }
 }
