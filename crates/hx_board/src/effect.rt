@@ -49,17 +49,7 @@ pub(crate) fn takes_effect(ask: Ask, text: &mut Vec<u8>, before: usize) -> Effec
 pub(crate) fn first_counts() -> Counts
     ensures { result ≡ first_counts }
 {
-    Counts {
-        regions: 1,
-        turns: 0,
-        repeats: 0,
-        violations: 0,
-        restarts: 0,
-        holds: 0,
-        abandons: 0,
-        discarded: 0,
-        spared: 0,
-    }
+    Counts::plain(1, 0)
 }
 
 /// A store is counted that made so many iterations begin again, or none, though a later one had marked the word.

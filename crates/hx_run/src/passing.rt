@@ -17,21 +17,6 @@ use std::alloc::Global;
 use std::marker::PhantomData;
 use std::sync::Wait;
 
-/// Nothing is counted yet.
-pub(crate) fn no_counts() -> Counts {
-    Counts {
-        regions: 0,
-        turns: 0,
-        repeats: 0,
-        violations: 0,
-        restarts: 0,
-        holds: 0,
-        abandons: 0,
-        discarded: 0,
-        spared: 0,
-    }
-}
-
 /// Both together; a count stays at its greatest number once it is there.
 pub(crate) fn add_up(a: Counts, b: Counts) -> Counts {
     Counts {

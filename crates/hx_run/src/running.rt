@@ -8,13 +8,13 @@ ghost use Rattle.hx_run.specs.Headline.{AreInRange, IsFinishOf, IsPlainRanOf, Re
 ghost use Rattle.hx_pool.specs.Setups.{crew_setup};
 ghost use Rattle.hx_run.specs.Runs.{IsOpening, EndsSo, PlainlySo, RefusesInput};
 
-use crate::passing::{Desk, add_up, counted, no_counts};
+use crate::passing::{Desk, add_up, counted};
 use crate::refusal::Refusal;
 use crate::source::executable_of;
 use hx_exec::executable::Executable;
 use hx_pool::{Gate, PoolError, Run, Seat, Station};
 use hx_tree::limits::{TABLE_LIMIT, WORKER_LIMIT};
-use hx_tree::outcome::{Finish, Settings};
+use hx_tree::outcome::{Counts, Finish, Settings};
 use hx_word::plain::{Paused, Plain, Ran};
 use std::alloc::Global;
 use std::marker::{Brand, Model, PhantomData};
@@ -153,7 +153,7 @@ fn run_to_end<R: Run, I: Given, W: Wait, G: Gate>(
     ensures { EndsSo R.setup.code I.input result }
 {
     let mut plain = first;
-    let mut loops = no_counts();
+    let mut loops = Counts::plain(0, 0);
     for _ in rt.forever() {
         match plain.to_region(STEPS_AT_ONCE) {
             Paused::Ended(outcome, counts) => {

@@ -3,7 +3,7 @@ use Rattle.std.specs.Prelude.{◌≡◌, ℕ, zero, suc, ◌≤◌, ◌++◌, Li
 use Rattle.std.specs.Int.{int_wrap}
 use Rattle.std.proofs.Common.{arith}
 use Rattle.std.proofs.lemmas.List.{length-replicate}
-use Rattle.hx_tree.specs.declared.limits.TheConstants.{FUNCTION_LIMIT, PARAMETER_LIMIT, PRIVATE_LIMIT, OPERAND_LIMIT, GLOBAL_LIMIT}
+use Rattle.hx_tree.specs.declared.limits.TheConstants.{SOURCE_LIMIT, FUNCTION_LIMIT, PARAMETER_LIMIT, PRIVATE_LIMIT, OPERAND_LIMIT, GLOBAL_LIMIT}
 use Rattle.hx_tree.specs.declared.tree.Returns.TheVariants as returns
 use Rattle.hx_tree.specs.declared.tree.BinaryOp.TheVariants as binary
 use Rattle.hx_tree.specs.declared.tree.Operator.TheVariants as op
@@ -99,6 +99,9 @@ name_at_limit = (refl, refl, omega arith)
 
 pub name_past_limit : IsName Word (letters 64) (letters 64) → ⊥
 name_past_limit h = let few : 64 ≤ 63 = h.2 in absurd (omega arith)
+
+pub source_at_limit : length (replicate {A = ℕ} 65536 32) ≤ SOURCE_LIMIT
+source_at_limit = let long = length-replicate {A = ℕ} 65536 32 in omega (arith, long)
 
 pub source_past_limit : (p : Program) → Spells (replicate 65537 32) p → ⊥
 source_past_limit p h = let long = length-replicate {A = ℕ} 65537 32 in absurd (omega (arith, long, h.is_short))

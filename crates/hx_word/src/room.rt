@@ -58,17 +58,7 @@ impl RegionEnd {
 pub(crate) fn plain_counts(turns: u64) -> Counts
     ensures { result ≡ region_counts turns }
 {
-    Counts {
-        regions: 1,
-        turns,
-        repeats: 0,
-        violations: 0,
-        restarts: 0,
-        holds: 0,
-        abandons: 0,
-        discarded: 0,
-        spared: 0,
-    }
+    Counts::plain(1, turns)
 }
 
 /// Words in place of others, where there is room for them.
