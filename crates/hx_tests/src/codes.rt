@@ -6,8 +6,8 @@ use hx_code::table::{Carried, Func, Induct, Region, Spot, Tables};
 use hx_code::validate::validate;
 use hx_code::word::{Array, Ask, Output, Word};
 use hx_exec::executable::Executable;
-use hx_exec::instruction::Instruction;
 use hx_exec::local::Local;
+use hx_table::instruction::Instruction;
 use hx_tree::limits::PRIVATE_LIMIT;
 use hx_tree::outcome::{Fault, FaultKind};
 use hx_tree::token::Pos;
@@ -624,10 +624,10 @@ fn instructions_of(alloc: Global, source: &[u8]) -> Result<usize, Fail> {
     }
 }
 
-// The 21 words of this main are eight instructions, and the `ret` that goes by itself.
+// The 21 words of this main are nine instructions, and none goes by itself.
 #[test]
 fn lowered_code_has_instructions(rt: HostRuntime) -> Result<(), Fail> {
     let source = b"int total; int main(){ int sum=0; for(int i=0;i<10;i++) sum=sum+i; total=sum; }";
-    assert_eq!(rt; instructions_of(rt.alloc(), source)?, 8);
+    assert_eq!(rt; instructions_of(rt.alloc(), source)?, 9);
     Ok(())
 }

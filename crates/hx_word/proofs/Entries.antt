@@ -9,7 +9,8 @@ use Rattle.hx_code.specs.Valid.{IsValid, IsSmallFunction, privates_of}
 use Rattle.hx_code.specs.Region.{RegionState, region_after}
 use Rattle.hx_code.proofs.Rooms.{all_at}
 use Rattle.hx_word.specs.Entry.{function_in, privates_in, padded}
-use Rattle.hx_word.proofs.RegionSteps.{region_then, region_stays}
+use Rattle.hx_exec.proofs.RegionSteps.{region_then}
+use Rattle.hx_word.proofs.RegionSteps.{region_stays}
 
 pub privates_few : (code : CodeView) → IsValid code → (r : ℕ) → privates_in code r ≤ PRIVATE_LIMIT
 privates_few code valid r = few (slice_get code.functions f) refl

@@ -106,8 +106,19 @@ impl Iterations {
         code.known();
         let mut words = 0;
         while words < steps {
-            let done = self.local.stretch_over(code, store, steps - words);
+            let done = self.local.iterate(
+                code,
+                self.opened.region,
+                self.opened.below,
+                &self.opened.words,
+                self.number,
+                self.turns,
+                store,
+                steps - words,
+            );
             words += done.words;
+            self.number = done.number;
+            self.turns = done.turns;
             match done.ask {
                 Ask::Goes => {}
                 Ask::Prints(output, at) => {
@@ -122,11 +133,6 @@ impl Iterations {
                         return ended(words, Exit::Faulted(fault));
                     }
                 }
-                Ask::Turns => {
-                    words += 1;
-                    self.begin(code, self.number.wrapping_add(1));
-                    self.turns = self.turns.saturating_add(1);
-                }
                 Ask::Leaves => {
                     self.local.go_on(done.next);
                     return ended(words + 1, Exit::Left);
@@ -139,6 +145,7 @@ impl Iterations {
                     self.local.go_on(done.next);
                     return ended(words + 1, Exit::Faulted(fault));
                 }
+                Ask::Turns => unreachable!(),
                 Ask::Loads(_) => unreachable!(),
                 Ask::Stores(_, _) => unreachable!(),
                 Ask::Calls(_, _) => unreachable!(),
