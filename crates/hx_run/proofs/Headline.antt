@@ -8,7 +8,7 @@ use Rattle.hx_tree.specs.Meaning as meaning
 use Rattle.hx_code.specs.Code.{CodeView}
 use Rattle.hx_code.specs.Machine as machine
 use Rattle.hx_lowering.specs.Correct.{Behaves, Shows}
-use Rattle.std.specs.Prelude.{All, Result, Ok, Err, IfOk, OnOk}
+use Rattle.std.specs.Prelude.{All, Result, Ok, Err, IfErr, IfOk, OnOk}
 use Rattle.hx_tree.specs.Accepted.{IsAccepted}
 use Rattle.hx_run.specs.declared.running.PlainRan.{PlainRan}
 use Rattle.hx_run.specs.declared.running.PlainRan.TheVariants.{Ended, More}
@@ -100,3 +100,7 @@ pub ran_if_ok : (source : List ℕ) (input : List ℤ) (code : CodeView) (steps 
     → OnOk r (machine.InputFits code input) → IfOk r (IsPlainRanOf source input steps)
 ran_if_ok source input code steps (Ok ran) numbers of ends fits = plain_ran source input code steps ran numbers of fits ends
 ran_if_ok source input code steps (Err e) numbers of ends fits = tt
+
+pub refused_if_err : {A : Type 0} → (source : List ℕ) (input : List ℤ) (code : CodeView) (r : Result A Refusal) → IsCodeOf source code → IfErr r (RefusesInput code input) → IfErr r (RefusesRun source input)
+refused_if_err source input code (Ok x) of refused = tt
+refused_if_err source input code (Err e) of refused = refuses_run source input code e of refused
