@@ -1,6 +1,6 @@
 -- From what a run and a schedule come to to what a replay answers.
 use Rattle.std.proofs.Common.{◌≡◌, ℕ, ◌<◌, ℤ, List, map, Result, Ok, Err, IfErr, ◌↔◌, refl, ap, sym, subst}
-use Rattle.std.specs.Prelude.{All}
+use Rattle.std.specs.Prelude.{All, IsErrAnd}
 use Rattle.std.proofs.lemmas.List.Elements.{All-map}
 use Rattle.hx_tree.specs.declared.outcome.Settings.{Settings}
 use Rattle.hx_code.specs.Code.{CodeView}
@@ -44,3 +44,8 @@ entry_refuses source input asked code (no_trace.Refused e) is h = refuses_run so
 entry_refuses source input asked code no_trace.NoEntry is h = record { code = code; is_code = is; refuses = h }
 entry_refuses source input asked code no_trace.NotEnded is h = record { code = code; is_code = is; refuses = h }
 entry_refuses source input asked code (no_trace.Schedule e) is h = absurd h
+
+-- what holds of a refusal that is passed on as it is
+pub passed_on : {A : Type 0} → (r : Result A NoTrace) (e : NoTrace) (Q : NoTrace → Type 0) → IsErrAnd r (λ x. x ≡ e) → Q e → IfErr r Q
+passed_on (Ok x) e Q same h = absurd same
+passed_on (Err x) e Q same h = subst Q (sym same) h
