@@ -1,0 +1,8 @@
+int s[1000];
+int main() {
+  for (int r = 0; r < 400; r = r + 1) {
+    pfor (int i = 0; i < 1000; i++) { s[i] = i * i; }
+  }
+  print(s[999]);
+  return 0;
+}

@@ -1,0 +1,2 @@
+int tak(int x, int y, int z) { if (y >= x) { return z; } return tak(tak(x - 1, y, z), tak(y - 1, z, x), tak(z - 1, x, y)); }
+int main() { print(tak(12, 8, 4)); return 0; }
