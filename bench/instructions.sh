@@ -35,7 +35,8 @@ for folder in programs shapes; do
     wanted "$name" "$@" || continue
     ours=$(count_of "$hydra" plain "$source" --steps 10000000000)
     cp "$work/printed" "$work/ours"
-    theirs=$(count_of lua5.4 "$folder/$name.lua")
+    # a loop whose counter is carried has the Lua of the one whose counter is computed
+    theirs=$(count_of lua5.4 "$folder/${name%_carried}.lua")
     cmp -s "$work/printed" "$work/ours" || { echo "$name: Lua prints something else" >&2; exit 1; }
     ratio=$(awk "BEGIN { printf \"%.2f\", $theirs / $ours }")
     ratios="$ratios $ratio"
