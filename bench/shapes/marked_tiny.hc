@@ -1,0 +1,1 @@
+int main() { int s = 0; pfor (int i = 0; i < 200000; i++) { s = s + i; } print(s); return 0; }
