@@ -1,5 +1,7 @@
 // Small codes by hand: what the rules refuse, and what the executor does before it asks.
 
+ghost use Rattle.std.specs.Prelude.{◌<◌, length};
+
 use crate::stages::compile;
 use hx_code::code::Code;
 use hx_code::table::{Carried, Func, Induct, Region, Spot, Tables};
@@ -557,6 +559,15 @@ fn words_at_two_and_one() -> [i32; PRIVATE_LIMIT] {
     words
 }
 
+// The private words of the innermost call.
+fn words_of(local: &Local) -> [i32; PRIVATE_LIMIT]
+    requires { 0 < length local.now.calls }
+{
+    let mut words = [0; PRIVATE_LIMIT];
+    local.privates_into(&mut words);
+    words
+}
+
 // Main of `pwhile(c<2) c=c+1;` opens the region, and is left behind it.
 #[test]
 fn a_region_is_opened_and_left(rt: HostRuntime) -> Result<(), Fail> {
@@ -566,7 +577,7 @@ fn a_region_is_opened_and_left(rt: HostRuntime) -> Result<(), Fail> {
     let mut copy = Local::new(rt.alloc(), &code)?;
     copy.copy_from(&local);
     copy.leave_to(20, &words_at_two_and_one());
-    assert_eq!(rt; copy.privates()[2], 5);
+    assert_eq!(rt; words_of(&copy)[2], 5);
     Ok(())
 }
 
@@ -578,7 +589,8 @@ fn iteration_asks(alloc: Global, code: &Executable) -> Result<(Ask, [usize; 2], 
     let mut iteration = Local::new(alloc, code)?;
     iteration.begin(code, 0, 0, &words_at_two_and_one(), 0);
     let calls = [iteration.calls(), iteration.below()];
-    let words = [iteration.privates()[1], iteration.privates()[2]];
+    let words = words_of(&iteration);
+    let words = [words[1], words[2]];
     Ok((iteration.stretch(code, 1000).ask, calls, words))
 }
 

@@ -62,13 +62,12 @@ impl Iterations {
         self.number = j;
     }
 
-    /// A region opens: its first iteration begins, without text of its own.
-    pub(crate) fn open(&mut self, code: &Executable, opened: Opened)
-        requires { IsOpened code.now (opened_of opened) }
-        ensures same { (store : List ℤ) → running self.new store None ≡ region_opening code.now (opened_of opened) store }
+    /// The region opens that `opened` tells of: its first iteration begins, without text of its own.
+    pub(crate) fn open(&mut self, code: &Executable)
+        requires { IsOpened code.now (opened_of self.old.opened) }
+        ensures same { (store : List ℤ) → running self.new store None ≡ region_opening code.now (opened_of self.old.opened) store }
         ensures room { vec_capacity self.new.text ≡ vec_capacity self.old.text }
     {
-        self.opened = opened;
         self.text.clear();
         self.turns = 0;
         self.begin(code, 0);

@@ -2,6 +2,7 @@
 
 ghost use Rattle.std.specs.Prelude.{◌≡◌, ◌<◌, length};
 ghost use Rattle.hx_code.specs.Code.{store_words};
+ghost use Rattle.hx_code.specs.Region.{Opened as Was, words_after};
 ghost use Rattle.hx_word.specs.Opening.{WordsAfter};
 
 use crate::carry::load_cells;
@@ -33,17 +34,38 @@ pub fn words_behind(
     requires store { length store.now ≡ store_words code.now }
     ensures { WordsAfter code.now exit opened.now iteration store.now result }
 {
-    code.known();
     let mut words = opened.words;
+    settle_words(code, opened.region, exit, iteration, store, &mut words);
+    words
+}
+
+/// The private words of the call that opened a region become those behind it, once it has ended: only
+/// one that is left gives its cells back, and its counter as it was in the iteration that left it.
+#[inline(always)]
+pub(crate) fn settle_words(
+    code: &Executable,
+    region: u32,
+    exit: Exit,
+    iteration: u64,
+    store: &[i32],
+    words: &mut [i32; PRIVATE_LIMIT],
+)
+    requires region { region < length code.now.regions }
+    requires store { length store.now ≡ store_words code.now }
+    ensures { (o : Was) → o.region ≡ region → o.words ≡ words.old → words.new ≡ words_after code.now exit o iteration store.now }
+{
+    code.known();
     match exit {
         Exit::Left => {
-            let region = code.region_at(opened.region);
-            let globals = code.globals() as usize;
-            load_cells(&region.carried, globals, store, &mut words);
-            set_counter(region.induct, &opened.words, iteration, &mut words);
-            words
+            let left = code.region_at(region);
+            let mut counted = [0; PRIVATE_LIMIT];
+            set_counter(left.induct, words, iteration, &mut counted);
+            load_cells(&left.carried, code.globals() as usize, store, words);
+            if let Some(counter) = left.induct {
+                words[counter.private as usize] = counted[counter.private as usize];
+            }
         }
-        Exit::Returned(_) => words,
-        Exit::Faulted(_) => words,
+        Exit::Returned(_) => {}
+        Exit::Faulted(_) => {}
     }
 }

@@ -50,12 +50,12 @@ impl<'c> RegionRun<'c> {
         ensures { IfOk result (λ run. run ≡ record { code = code.now; state = region_opening code.now (opened_from region entry.now) entry.now.store.items; locals = length entry.now.locals.items }) }
     {
         code.known();
-        let opened = opened_by(code, region, entry);
         let store = Vec::from_slice(alloc, &entry.store)?;
         let mut locals = Vec::with_capacity(alloc, PRIVATE_LIMIT)?;
         refill_words(&mut locals, &entry.locals);
         let mut iterations = Iterations::new(alloc, code)?;
-        iterations.open(code, opened);
+        iterations.opened = opened_by(code, region, entry);
+        iterations.open(code);
         Ok(RegionRun {
             code,
             iterations,
@@ -72,10 +72,10 @@ impl<'c> RegionRun<'c> {
     {
         let code = self.code;
         code.known();
-        let opened = opened_by(code, region, entry);
         self.store.copy_from_slice(&entry.store);
         refill_words(&mut self.locals, &entry.locals);
-        self.iterations.open(code, opened);
+        self.iterations.opened = opened_by(code, region, entry);
+        self.iterations.open(code);
         self.exit = None;
     }
 

@@ -12,8 +12,8 @@ use Rattle.hx_word.proofs.region_run.RegionRun.again.Goals as goal
 pub invariant_of-self : goal.invariant_of-self
 invariant_of-self c =
     let code = c.self.inside.code.now in
-    let o = opened_of c.opened_by-opened.result in
-    let is : IsOpened code o = c.opened_by-opened.ensures.fits in
+    let o = opened_of c.opened_by-self-inside.result in
+    let is : IsOpened code o = c.opened_by-self-inside.ensures.fits in
     let st = c.copy_from_slice.new.self.items in
     let fits : EntryFits code c.args.region c.args.entry.now = subst (λ (v : RunView). EntryFits v.code c.args.region c.args.entry.now) (sym c.self.view_is) c.requires in
     let long : length st ≡ store_words code = ap length c.copy_from_slice.ensures.items ∙ ap length c.deref.ensures.value ∙ fits.store in
@@ -38,5 +38,5 @@ returns c =
     let view : CodeView → RegionState → ℕ → RunView = λ k z n. record { code = k; state = z; locals = n } in
     let items = c.copy_from_slice.ensures.items ∙ c.deref.ensures.value in
     let locals = ap length (c.refill_words.ensures.items ∙ c.deref-2.ensures.value) in
-    let state = c.open.ensures.same st ∙ ap (λ o. region_opening code o st) c.opened_by-opened.ensures.opened ∙ ap (region_opening code (opened_from c.args.region e)) items in
+    let state = c.open.ensures.same st ∙ ap (λ o. region_opening code o st) c.opened_by-self-inside.ensures.opened ∙ ap (region_opening code (opened_from c.args.region e)) items in
     ap (λ z. view code z (length c.refill_words.new.kept.items)) state ∙ ap (view code (region_opening code (opened_from c.args.region e) e.store.items)) locals ∙ ap (λ (r : RunView). view r.code (region_opening r.code (opened_from c.args.region e) e.store.items) (length e.locals.items)) c.self.view_is

@@ -17,8 +17,8 @@ refill_words-requires c =
 pub invariant_of-result : goal.invariant_of-result
 invariant_of-result c =
     let code = c.args.code.now in
-    let o = opened_of c.opened_by-opened.result in
-    let is = c.opened_by-opened.ensures.fits in
+    let o = opened_of c.opened_by-iterations.result in
+    let is = c.opened_by-iterations.ensures.fits in
     let st = c.in_ok-store.store.items in
     let long : length st ≡ store_words code = ap length c.in_ok-store.ensures.items ∙ ap length c.deref.ensures.value ∙ c.requires.store in
     let runs : RunsWell code (region_opening code o st) = record { opened = is; local = opening_fits code c.known.ensures o is 0; region = refl; store = long; text = omega (arith, is.printed) } in
@@ -39,7 +39,7 @@ returns c =
     let code = c.args.code.now in
     let e = c.args.entry.now in
     let st = c.in_ok-store.store.items in
-    let state = c.open.ensures.same st ∙ ap (λ o. region_opening code o st) c.opened_by-opened.ensures.opened ∙ ap (region_opening code (opened_from c.args.region e)) (c.in_ok-store.ensures.items ∙ c.deref.ensures.value) in
+    let state = c.open.ensures.same st ∙ ap (λ o. region_opening code o st) c.opened_by-iterations.ensures.opened ∙ ap (region_opening code (opened_from c.args.region e)) (c.in_ok-store.ensures.items ∙ c.deref.ensures.value) in
     let locals = ap length (c.refill_words.ensures.items ∙ c.deref-2.ensures.value) in
     let view : RegionState → ℕ → RunView = λ z n. record { code = code; state = z; locals = n } in
     ap (λ z. view z (length c.refill_words.new.kept.items)) state ∙ ap (view (region_opening code (opened_from c.args.region e) e.store.items)) locals

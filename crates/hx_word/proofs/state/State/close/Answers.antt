@@ -1,4 +1,4 @@
-use Rattle.std.proofs.Common.{◌≡◌, ◌+◌, ◌++◌, ℕ, ℤ, List, ap, ◌∙◌}
+use Rattle.std.proofs.Common.{◌≡◌, ◌+◌, ◌++◌, ℕ, ℤ, List, ap, refl, ◌∙◌}
 use Rattle.hx_code.specs.Region.{held, words_after}
 use Rattle.hx_code.specs.Machine.{Machine, goes_behind}
 use Rattle.hx_word.specs.Opening.{opened_of}
@@ -13,7 +13,7 @@ returns-clause-resumed c =
     let exit = c.args.exit in
     let o = opened_of i.opened in
     let behind : List ℤ → List ℕ → ℕ → ℕ → Machine = λ words text turns regions. goes_behind code o.region exit words (record (out_of s) { text = text; turns = turns; regions = regions }) in
-    let words : c.words_behind-words.result ≡ words_after code exit o i.number s.store.items = c.words_behind-words.ensures ∙ ap (words_after code exit o i.number) c.deref.ensures.value in
+    let words : c.settle_words.new.words ≡ words_after code exit o i.number s.store.items = c.settle_words.ensures o refl refl ∙ ap (words_after code exit o i.number) c.deref.ensures.value in
     let text : c.append.new.self.items ≡ s.text.items ++ i.text.items = c.in-Ok.ensures.items in
     let turns : c.saturating_add-self.result ≡ held (s.turns + i.turns) = c.saturating_add-self.ensures in
     let regions : c.saturating_add-self-2.result ≡ held (s.regions + 1) = c.saturating_add-self-2.ensures in

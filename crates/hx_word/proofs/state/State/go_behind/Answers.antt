@@ -22,7 +22,8 @@ returns-in-Left-clause-behind c =
     let l = c.args.self.now.calls in
     let m = out_of c.args.self.now in
     let r = c.args.self.now.iterations.opened.region in
+    let words = c.args.self.now.iterations.opened.words in
     let g = c.region_at-region.result.now in
     let exit : c.region.inside.exit ≡ (region_of code r).exit = ap (λ (x : RegionView). x.exit) (c.region.view_is ∙ sym (the_region code r g c.region_at-region.ensures)) in
-    let same : c.leave_to.new.self ≡ with_calls l (left_to (region_of code r).exit c.args.words.now l.calls) = c.leave_to.ensures ∙ ap (λ p. with_calls l (left_to p c.args.words.now l.calls)) exit in
-    subst (λ e. record m { local = c.leave_to.new.self } ≡ goes_behind code r e c.args.words.now m) (sym c.in-Left.is) (ap (λ x. record m { local = x }) same)
+    let same : c.leave_to.new.self ≡ with_calls l (left_to (region_of code r).exit words l.calls) = c.leave_to.ensures ∙ ap (λ p. with_calls l (left_to p words l.calls)) exit in
+    subst (λ e. record m { local = c.leave_to.new.self } ≡ goes_behind code r e words m) (sym c.in-Left.is) (ap (λ x. record m { local = x }) same)

@@ -23,8 +23,8 @@ some_calls code r (c ∷ rest) h = (omega arith, slice_get_within code.regions r
 pub region_at-requires : goal.region_at-requires
 region_at-requires c = (some_calls _ _ _ c.requires.waits.calls).1
 
-pub privates-requires : goal.privates-requires
-privates-requires c = (some_calls _ _ _ c.requires.waits.calls).0
+pub privates_into-requires : goal.privates_into-requires
+privates_into-requires c = (some_calls _ _ _ c.requires.waits.calls).0
 
 pub store_cells-requires-clause-words : goal.store_cells-requires-clause-words
 store_cells-requires-clause-words c =
@@ -46,8 +46,8 @@ open-requires c =
     record {
       region = some.1;
       below = omega (arith, some.0, c.below.ensures, c.calls.ensures.calls, c.requires.waits.deep);
-      words = ap length c.privates.ensures ∙ words_long _ _ _ c.requires.waits.calls;
-      printed = omega (arith, c.len.ensures, c.requires.text);
+      words = ap length c.privates_into.ensures ∙ words_long _ _ _ c.requires.waits.calls;
+      printed = omega (arith, c.len-opened.ensures, c.requires.text);
     }
 
 opened_as : (c : goal.After-self-2-1) → record (machine_of c.args.self.now) { store = (with_items c.args.self.now.store c.store_cells.new.store).items; within = Some (running c.open.new.self (with_items c.args.self.now.store c.store_cells.new.store).items None) } ≡ one_store (opens c.args.code.now c.args.region c.args.self.now.calls (machine_of c.args.self.now))
@@ -59,8 +59,8 @@ opened_as c =
     let made : List ℤ → RegionState → Machine = λ st z. record m { store = st; within = Some z } in
     let carried = c.deref.ensures.value ∙ ap (λ (g : RegionView). g.carried) (c.behind-code.view_is ∙ sym (the_region code c.args.region c.region_at.result.now c.region_at.ensures)) in
     let store : new ≡ into_cells code.globals (region_of code c.args.region).carried o.words m.store =
-    c.store_cells.ensures ∙ same_cells _ _ _ _ _ _ _ _ c.globals-globals.ensures carried c.privates.ensures c.deref_mut.ensures.value in
-    let same = same_opened c.args.region c.below.result c.calls.result c.len.result c.privates.result c.args.self.now.calls c.args.self.now.text.items c.below.ensures c.calls.ensures.calls c.privates.ensures (omega (arith, c.len.ensures)) in
+    c.store_cells.ensures ∙ same_cells _ _ _ _ _ _ _ _ c.globals-globals.ensures carried c.privates_into.ensures c.deref_mut.ensures.value in
+    let same = same_opened c.args.region c.below.result c.calls.result c.len-opened.result c.privates_into.new.words c.args.self.now.calls c.args.self.now.text.items c.below.ensures c.calls.ensures.calls c.privates_into.ensures (omega (arith, c.len-opened.ensures)) in
     let len : length m.store ≡ vec_len c.args.self.now.store = omega (arith, c.deref_mut.ensures.len, ap length c.deref_mut.ensures.value) in
     let long : length new ≡ vec_len c.args.self.now.store = ap length store ∙ length-into code.globals (region_of code c.args.region).carried o.words m.store ∙ len in
     ap (λ st. made st (running c.open.new.self st None)) (with_items_is c.args.self.now.store new long) ∙ ap (made new) (c.open.ensures.same new) ∙ ap (λ o'. made new (region_opening code o' new)) same ∙ ap (λ st. made st (region_opening code o st)) store
@@ -77,7 +77,7 @@ returns-clause-well c =
     let store = into_cells code.globals carried o.words m.store in
     let long : length store ≡ store_words code = length-into code.globals carried o.words m.store ∙ omega (arith, c.deref_mut.ensures.len, ap length c.deref_mut.ensures.value, c.requires.store) in
     let some = some_calls _ _ _ c.requires.waits.calls in
-    let short : length m.text ≤ TEXT_LIMIT = omega (arith, c.len.ensures, c.requires.text) in
+    let short : length m.text ≤ TEXT_LIMIT = omega (arith, c.len-opened.ensures, c.requires.text) in
     let is : IsOpened code o = record { region = some.1; below = omega (arith, some.0, c.requires.waits.deep); words = words_long _ _ _ c.requires.waits.calls; printed = short } in
     let runs : RunsWell code (region_opening code o store) = record { opened = is; local = opening_fits code c.known.ensures o is 0; region = refl; store = long; text = omega (arith, short) } in
     let inside : RunsInside code (region_opening code o store) m.local m.text = record { runs = runs; goes = refl; waits = c.requires.waits; printed = refl } in
