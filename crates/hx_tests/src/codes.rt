@@ -560,7 +560,7 @@ fn words_at_two_and_one() -> [i32; PRIVATE_LIMIT] {
 }
 
 // The private words of the innermost call.
-fn words_of(local: &Local) -> [i32; PRIVATE_LIMIT]
+fn private_words_of(local: &Local) -> [i32; PRIVATE_LIMIT]
     requires { 0 < length local.now.calls }
 {
     let mut words = [0; PRIVATE_LIMIT];
@@ -577,7 +577,7 @@ fn a_region_is_opened_and_left(rt: HostRuntime) -> Result<(), Fail> {
     let mut copy = Local::new(rt.alloc(), &code)?;
     copy.copy_from(&local);
     copy.leave_to(20, &words_at_two_and_one());
-    assert_eq!(rt; words_of(&copy)[2], 5);
+    assert_eq!(rt; private_words_of(&copy)[2], 5);
     Ok(())
 }
 
@@ -589,7 +589,7 @@ fn iteration_asks(alloc: Global, code: &Executable) -> Result<(Ask, [usize; 2], 
     let mut iteration = Local::new(alloc, code)?;
     iteration.begin(code, 0, 0, &words_at_two_and_one(), 0);
     let calls = [iteration.calls(), iteration.below()];
-    let words = words_of(&iteration);
+    let words = private_words_of(&iteration);
     let words = [words[1], words[2]];
     Ok((iteration.stretch(code, 1000).ask, calls, words))
 }
