@@ -2,6 +2,7 @@
 //! carries by the names that they have in its function.
 #![tactic(auto)]
 
+pub mod laws;
 mod locals;
 mod loops;
 mod names;

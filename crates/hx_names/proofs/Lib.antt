@@ -1,0 +1,6 @@
+pub mod Blocks
+pub mod Carried
+pub mod Chosen
+pub mod Counts
+pub mod Places
+pub mod Unique
