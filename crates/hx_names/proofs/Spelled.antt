@@ -13,10 +13,10 @@ use Rattle.hx_tree.specs.declared.tree.BinaryOp.{BinaryOp}
 use Rattle.hx_tree.specs.declared.tree.BinaryOp.TheVariants.{Strict, And, Or}
 use Rattle.hx_tree.specs.declared.tree.Operator.{Operator}
 use Rattle.hx_tree.specs.declared.tree.Operator.TheVariants as op
-use Rattle.hx_tree.specs.Lexis.{Token, NameToken, NumberToken, MarkToken}
+use Rattle.hx_tree.specs.Lexis.{Token, MarkToken}
 use Rattle.hx_tree.specs.Tree as tree
 use Rattle.hx_tree.specs.Tree.{Name}
-use Rattle.hx_tree.specs.Grammar.{Phrase, ◌⨾◌, ◌given◌, Nothing, Never, Named, Numeral, At, The, Optional, EachBehindComma, Listed, unary_mark, operator_mark, binary_mark, layer, Updating, IsExprOf, AreArguments, AreMoreArguments, IsExpr, IsLocal, AreLocals, IsPlace, IsAssignment, IsInit, AreForClauses, InParens, IsStmt, IsPart, AreParts, Sign, IsConstant, AreValues, IsShape, IsGlobal, IsParams, returns_mark, IsItem, AreItems}
+use Rattle.hx_tree.specs.Grammar.{Phrase, ◌⨾◌, ◌given◌, Nothing, Named, Numeral, At, The, Optional, EachBehindComma, Listed, unary_mark, operator_mark, binary_mark, layer, Updating, IsExprOf, AreArguments, AreMoreArguments, IsExpr, IsLocal, AreLocals, IsPlace, IsAssignment, IsInit, AreForClauses, InParens, IsStmt, IsPart, AreParts, Sign, IsConstant, AreValues, IsShape, IsGlobal, IsParams, returns_mark, AreItems}
 use Rattle.hx_tree.specs.Meaning.{item_functions}
 use Rattle.hx_names.specs.Lines.{token_lines, loop_marks, stmt_marks, part_marks, parts_marks}
 
