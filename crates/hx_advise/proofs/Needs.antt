@@ -1,5 +1,5 @@
 -- Which words turns needed, one event later.
-use Rattle.std.proofs.Common.{◌≡◌, ℕ, zero, suc, ◌+◌, ◌-◌, ◌^◌, ◌<◌, ◌≤◌, ◌⊎◌, min, inl, inr, List, [], ◌∷◌, refl, sym, ap, subst, ◌∙◌, arith}
+use Rattle.std.proofs.Common.{◌≡◌, ℕ, zero, suc, ◌+◌, ◌-◌, ◌^◌, ◌<◌, ◌≤◌, ◌⊎◌, min, inl, inr, List, ◌∷◌, refl, sym, ap, subst, ◌∙◌, arith}
 use Rattle.hx_speculation.proofs.Stores.{same_or_not}
 use Rattle.hx_advise.specs.declared.watch.Need.{Need}
 use Rattle.hx_advise.specs.Events.{Event, Read, Write, TurnEnd, turn_of, HasWritten, Wrote, Needs, NeedsOne, HowMany}
@@ -96,20 +96,6 @@ keeps_end es P n k =
       };
       before = omega (arith, old);
       latest = (λ e. absurd (omega (arith, e, old)), λ h. absurd (never h));
-    }
-
--- nothing has happened
-pub keeps_nothing : (P : ℕ → Type 0) (n : Need) → n.turns ≡ 0 → n.distance ≡ 0 → n.latest ≡ 0 → KeepsNeed [] P n
-keeps_nothing P n turns distance latest =
-    record {
-      need = record {
-        turns = inr (λ h. h.3.1, turns);
-        least = λ i j a p h. absurd h.1;
-        nearest = λ some. absurd (omega (arith, some, turns));
-        none = λ e. distance;
-      };
-      before = omega (arith, latest);
-      latest = (λ e. absurd (omega (arith, e, latest)), λ h. absurd h.3.1);
     }
 
 -- ---- a read that needs an earlier turn

@@ -1,5 +1,5 @@
 -- What is kept of events tells them, one event later.
-use Rattle.std.proofs.Common.{◌≡◌, ◌≢◌, ℕ, suc, ◌+◌, ◌-◌, ◌^◌, ◌<◌, ◌⊎◌, inl, inr, List, [], ◌∷◌, true, false, Some, length, refl, sym, ap, subst, ◌∙◌, arith, length-set, get_or-set_same, get_or-set_other}
+use Rattle.std.proofs.Common.{◌≡◌, ◌≢◌, ℕ, suc, ◌+◌, ◌-◌, ◌^◌, ◌<◌, ◌⊎◌, inl, inr, List, ◌∷◌, true, false, Some, length, refl, sym, ap, subst, ◌∙◌, arith, length-set, get_or-set_same, get_or-set_other}
 use Rattle.std.specs.Prelude.{slice_index, slice_set, slice_get}
 use Rattle.std.proofs.lemmas.Option.{slice_get-get_or}
 use Rattle.hx_code.specs.Region.{held}
@@ -7,7 +7,7 @@ use Rattle.hx_speculation.proofs.Stores.{same_or_not}
 use Rattle.hx_advise.specs.Events.{Event, Read, Write, TurnEnd, turn_of, reads_in, writes_in}
 use Rattle.hx_advise.specs.Watch.{WatchView, IsWriter, KeepsNeed, IsAgain, AnyWord, no_need, need_at, Tells}
 use Rattle.hx_advise.specs.declared.watch.Need.{Need}
-use Rattle.hx_advise.proofs.Needs.{keeps_same, keeps_end, keeps_nothing, keeps_other, keeps_again, own_read, old_read, old_write, new_write}
+use Rattle.hx_advise.proofs.Needs.{keeps_same, keeps_end, keeps_other, keeps_again, own_read, old_read, old_write, new_write}
 use Rattle.hx_advise.proofs.Events.{IsOwn, writer_read, writer_end, writer_other, writer_own, write_keeps, write_kept, end_keeps, end_kept, read_keeps, read_kept, read_breaks}
 
 held_next : (k : ℕ) → held (held k + 1) ≡ held (suc k)
@@ -15,28 +15,6 @@ held_next k = omega arith
 
 count_next : (n m k : ℕ) → n ≡ held (m + 1) → m ≡ held k → n ≡ held (suc k)
 count_next n m k e h = e ∙ ap (λ x. held (x + 1)) h ∙ held_next k
-
-pub none_yet : (a x : ℕ) → x ≡ 0 → IsWriter [] a x
-none_yet a x e = subst (IsWriter [] a) (sym e) (λ i w. w)
-
-none_read : (i j a : ℕ) → i < j → ⊥ → ⊥ → ⊥
-none_read i j a lt w x = w
-
--- no turn has needed it
-abbrev pub IsNone : Need → Type 0
-IsNone n = (n.turns ≡ 0) × (n.distance ≡ 0) × (n.latest ≡ 0)
-
-pub tells_nothing : (w : WatchView) → w.turn ≡ 0 → ((a : ℕ) → a < length w.writers → slice_index w.writers a ≡ 0) → w.reads ≡ 0 → w.writes ≡ 0 → w.is_independent ≡ true → ((a : ℕ) → IsNone (need_at w.needs a)) → IsNone w.needed → Tells w []
-tells_nothing w turn writers reads writes is needs needed =
-    record {
-      turn = turn;
-      writers = λ a lt. none_yet a (slice_index w.writers a) (writers a lt);
-      reads = reads;
-      writes = writes;
-      verdict = (λ h. none_read, λ f. is);
-      needs = λ a. let z = needs a in keeps_nothing (λ b. b ≡ a) (need_at w.needs a) z.0 z.1 z.2;
-      needed = keeps_nothing AnyWord w.needed needed.0 needed.1 needed.2;
-    }
 
 -- no earlier turn wrote the word that is read, or this one did too
 abbrev pub IsOwnIn : WatchView → ℕ → Type 0

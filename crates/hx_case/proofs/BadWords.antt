@@ -3,9 +3,8 @@ use Rattle.std.proofs.Common.{◌≡◌, ℕ, ◌+◌, ◌<◌, ◌≤◌, List,
 use Rattle.std.specs.Prelude.{All}
 use Rattle.std.proofs.lemmas.List.{append_assoc, append-nil, drop_all}
 use Rattle.std.proofs.lemmas.List.Elements.{All-append, All-cons, All-nil}
-use Rattle.std.specs.List.{prefix_len}
-use Rattle.hx_input.specs.InputText.{is_in_word, words_of}
-use Rattle.hx_input.proofs.Words.{left_words, left_blank}
+use Rattle.hx_input.specs.InputText.{words_of}
+use Rattle.hx_input.proofs.Words.{word_len, left_words, left_blank}
 use Rattle.hx_case.specs.Input.{IsNumber, IsFirstBad}
 
 -- these words are numbers, and then those come of what is left
@@ -13,13 +12,6 @@ pub record IsPast (text : List ℕ) (at : ℕ) : Type 0 where
   pub before : List (List ℕ)
   pub words : words_of text ≡ before ++ words_of (drop at text)
   pub numbers : All IsNumber before
-
--- how many bytes the first word has, or 0 before a blank
-abbrev pub word_len : List ℕ → ℕ
-word_len text = prefix_len is_in_word text
-
-pub past_none : (text : List ℕ) → IsPast text 0
-past_none text = record { before = []; words = refl; numbers = All-nil IsNumber }
 
 pub past_blank : (text : List ℕ) (at : ℕ) → IsPast text at → 0 ≡ word_len (drop at text) → IsPast text (at + (0 + 1))
 past_blank text at h e = record {

@@ -1,6 +1,7 @@
 use Rattle.std.proofs.Common.{arith, ◌≡◌, ◌∙◌, ◌+◌, ap, sym, subst, ℕ, List, drop, take, false, true}
 use Rattle.hx_case.specs.Input.{IsFirstBad, IsNumber}
-use Rattle.hx_case.proofs.BadWords.{IsPast, word_len, past_blank, past_number, past_bad, past_all}
+use Rattle.hx_input.proofs.Words.{word_len}
+use Rattle.hx_case.proofs.BadWords.{IsPast, past_blank, past_number, past_bad, past_all}
 use Rattle.hx_case.proofs.input.bad_word.Goals as goal
 use Rattle.hx_case.proofs.input.bad_word.Goals.{else-len-gt0-via-then-len-gt0+else-not-is_number, else-len-gt0-via-else-len-gt0}
 
