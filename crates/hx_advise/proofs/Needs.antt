@@ -2,8 +2,8 @@
 use Rattle.std.proofs.Common.{◌≡◌, ℕ, zero, suc, ◌+◌, ◌-◌, ◌^◌, ◌<◌, ◌≤◌, ◌⊎◌, min, inl, inr, List, ◌∷◌, refl, sym, ap, subst, ◌∙◌, arith}
 use Rattle.hx_speculation.proofs.Stores.{same_or_not}
 use Rattle.hx_advise.specs.declared.watch.Need.{Need}
-use Rattle.hx_advise.specs.Events.{Event, Read, Write, TurnEnd, turn_of, HasWritten, Wrote, Needs, NeedsOne, HowMany}
-use Rattle.hx_advise.specs.Watch.{IsWriter, OneAsNear, KeepsNeed, IsAgain}
+use Rattle.hx_advise.specs.Events.{Event, Read, Write, TurnEnd, turn_of, HasWritten, Wrote, Needs, NeedsOne, HowMany, IsIndependent}
+use Rattle.hx_advise.specs.Watch.{IsWriter, AnyWord, OneAsNear, IsNeed, KeepsNeed, IsAgain}
 use Rattle.hx_advise.proofs.Events.{IsOwn, own, exposed_before, has_wrote}
 
 -- ---- how many
@@ -34,6 +34,44 @@ many_last Q n k never (inr h) = h.1
 
 pub many_more : (Q R : ℕ → Type 0) (n k : ℕ) → ((j : ℕ) → j < n → Q j → R j) → ((j : ℕ) → j < n → R j → Q j) → (Q n → ⊥) → R n → HowMany Q (suc n) k → HowMany R (suc n) (k + 1)
 many_more Q R n k f g never here h = inl (here, k, omega arith, many_as Q R n k f g (many_last Q n k never h))
+
+pub many_same : (Q : ℕ → Type 0) (n k l : ℕ) → HowMany Q n k → HowMany Q n l → k ≡ l
+many_same Q zero k l h g = h ∙ sym g
+many_same Q (suc n) k l (inl h) (inl g) = h.2 ∙ ap suc (many_same Q n h.1 g.1 h.3 g.3) ∙ sym g.2
+many_same Q (suc n) k l (inl h) (inr g) = absurd (g.0 h.0)
+many_same Q (suc n) k l (inr h) (inl g) = absurd (h.0 g.0)
+many_same Q (suc n) k l (inr h) (inr g) = many_same Q n k l h.1 g.1
+
+many_some : (Q : ℕ → Type 0) (n k : ℕ) → 0 < k → HowMany Q n k → (j : ℕ) × Q j
+many_some Q zero k some h = absurd (omega (arith, some, h))
+many_some Q (suc n) k some (inl h) = (n, h.0)
+many_some Q (suc n) k some (inr h) = many_some Q n k some h.1
+
+-- ---- the one need
+
+pub single_need : (es : List Event) (P : ℕ → Type 0) (n m : Need) → IsNeed es P n → IsNeed es P m → (n.turns ≡ m.turns) × (n.distance ≡ m.distance)
+single_need es P n m h g =
+    let turns : n.turns ≡ m.turns = many_same (NeedsOne es P) (suc (turn_of es)) n.turns m.turns h.turns g.turns in
+    elim (same_or_not n.turns 0) [
+      | inl e ↦ (turns, h.none e ∙ sym (g.none (sym turns ∙ e)))
+      | inr o ↦
+          let x = h.nearest (omega (arith, o)) in
+          let y = g.nearest (omega (arith, o, turns)) in
+          let there : x.0 + m.distance ≤ x.1 = g.least x.0 x.1 x.2 x.3 x.4 in
+          let back : y.0 + n.distance ≤ y.1 = h.least y.0 y.1 y.2 y.3 y.4 in
+          let first : x.1 ≡ x.0 + n.distance = x.5 in
+          let second : y.1 ≡ y.0 + m.distance = y.5 in
+          (turns, omega (arith, there, back, first, second))
+    ]
+
+pub need_verdict : (es : List Event) (n : Need) → IsNeed es AnyWord n → (n.turns ≡ 0 → IsIndependent es) × (IsIndependent es → n.turns ≡ 0)
+need_verdict es n h = (
+  λ e i j a lt w x. let le : j ≤ turn_of es = exposed_before es j a x in many_none (NeedsOne es AnyWord) (suc (turn_of es)) n.turns j h.turns e (omega (arith, le)) (i, a, tt, (lt, w, x)),
+  λ f. elim (same_or_not n.turns 0) [
+    | inl e ↦ e
+    | inr o ↦ let x = many_some (NeedsOne es AnyWord) (suc (turn_of es)) n.turns (omega (arith, o)) h.turns in absurd (f x.1.0 x.0 x.1.1 x.1.3.0 x.1.3.1 x.1.3.2)
+  ],
+)
 
 -- ---- one event later
 
