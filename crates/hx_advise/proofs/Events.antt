@@ -82,7 +82,7 @@ abbrev pub IsOwn : List Event → ℕ → Type 0
 IsOwn es w = (w ≡ 0) ⊎ (turn_of es < w)
 
 -- of a word that has this writer, no write of an earlier turn is read by one that hasn't written it
-own : (es : List Event) (b w i : ℕ) → IsWriter es b w → IsOwn es w → Wrote es i b → i < turn_of es → (HasWritten es b → ⊥) → ⊥
+pub own : (es : List Event) (b w i : ℕ) → IsWriter es b w → IsOwn es w → Wrote es i b → i < turn_of es → (HasWritten es b → ⊥) → ⊥
 own es b zero i h o x lt n = h i x
 own es b (suc t) i h (inl e) x lt n = omega (arith, e)
 own es b (suc t) i h (inr o) x lt n =

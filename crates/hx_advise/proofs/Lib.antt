@@ -1,7 +1,10 @@
 pub mod Events
+pub mod Needs
 pub mod Watches
 pub mod Loops
 pub mod Courses
+pub mod NeedsAdded
+pub mod NeedsSummed
 pub mod Sums
 pub mod Runs
 pub mod Passes

@@ -1,5 +1,5 @@
 -- What is seen of a loop, one time more that it was opened.
-use Rattle.std.proofs.Common.{◌≡◌, ◌≢◌, ℕ, zero, suc, ◌+◌, ◌<◌, List, [], ◌∷◌, ◌++◌, length, true, false, Some, refl, ap, sym, subst, ◌∙◌, inl, inr, arith, length-set, get_or-set_same, get_or-set_other}
+use Rattle.std.proofs.Common.{◌≡◌, ◌≢◌, ℕ, zero, suc, ◌+◌, ◌<◌, List, [], ◌∷◌, ◌++◌, length, true, false, Some, Vec, Global, refl, ap, sym, subst, ◌∙◌, inl, inr, arith, length-set, get_or-set_same, get_or-set_other}
 use Rattle.std.specs.Prelude.{if◌then◌else◌, slice_get, slice_set}
 use Rattle.std.proofs.lemmas.Bool.{ne_eqb}
 use Rattle.std.proofs.lemmas.Option.{slice_get_within, slice_get-get_or}
@@ -8,7 +8,10 @@ use Rattle.hx_speculation.proofs.Stores.{eq_same, same_or_not}
 use Rattle.hx_advise.specs.declared.program.Seen.{Seen}
 use Rattle.hx_advise.specs.declared.region.Watched.{Watched}
 use Rattle.hx_advise.specs.Events.{turn_of, reads_in, writes_in, IsIndependent}
-use Rattle.hx_advise.specs.Runs.{Story, total, IsSeen, AreSeen, IsTold}
+use Rattle.hx_advise.specs.declared.watch.Need.{Need}
+use Rattle.hx_advise.specs.Watch.{AnyWord, need_at}
+use Rattle.hx_advise.specs.Runs.{Story, total, AreNeeds, IsSeen, AreSeen, IsTold}
+use Rattle.hx_advise.proofs.NeedsSummed.{needs_same, needs_unseen, independent_none}
 
 -- ---- sums
 
@@ -57,25 +60,29 @@ counted x xs w old new t s opened turns words loads stores = record {
 }
 
 -- of a time with independent turns
-pub seen_fit : (x : Story) (xs : List Story) (old new : Seen) → Counted x xs old new → IsSeen x.region xs old → new.is_independent ≡ old.is_independent → IsIndependent x.events → IsSeen x.region (x ∷ xs) new
-seen_fit x xs old new c s same fit = record {
+pub seen_fit : (x : Story) (xs : List Story) (old new : Seen) → Counted x xs old new → IsSeen x.region xs old → new.is_independent ≡ old.is_independent → IsIndependent x.events → new.needed ≡ old.needed → new.needs ≡ old.needs → IsSeen x.region (x ∷ xs) new
+seen_fit x xs old new c s same fit needed needs = record {
   opened = c.opened;
   turns = c.turns;
   words = c.words;
   loads = c.loads;
   stores = c.stores;
   verdict = (λ h. (λ _. fit, s.verdict.0 (sym same ∙ h)), λ e. same ∙ s.verdict.1 e.1);
+  needed = subst (AreNeeds x.region AnyWord (x ∷ xs)) (sym needed) (needs_same x.region AnyWord x xs old.needed (λ _. independent_none x.events AnyWord fit) s.needed);
+  needs = λ a. subst (λ (v : Vec Need Global). AreNeeds x.region (λ b. b ≡ a) (x ∷ xs) (need_at v.items a)) (sym needs) (needs_same x.region (λ b. b ≡ a) x xs (need_at old.needs.items a) (λ _. independent_none x.events (λ b. b ≡ a) fit) (s.needs a));
 }
 
 -- of one with others
-pub seen_unfit : (x : Story) (xs : List Story) (old new : Seen) → Counted x xs old new → new.is_independent ≡ false → (IsIndependent x.events → ⊥) → IsSeen x.region (x ∷ xs) new
-seen_unfit x xs old new c not unfit = record {
+pub seen_unfit : (x : Story) (xs : List Story) (old new : Seen) → Counted x xs old new → new.is_independent ≡ false → (IsIndependent x.events → ⊥) → AreNeeds x.region AnyWord (x ∷ xs) new.needed → ((a : ℕ) → AreNeeds x.region (λ b. b ≡ a) (x ∷ xs) (need_at new.needs.items a)) → IsSeen x.region (x ∷ xs) new
+seen_unfit x xs old new c not unfit needed needs = record {
   opened = c.opened;
   turns = c.turns;
   words = c.words;
   loads = c.loads;
   stores = c.stores;
   verdict = (λ h. let no : false ≡ true = sym not ∙ h in absurd cc, λ e. absurd (unfit (e.0 refl)));
+  needed = needed;
+  needs = needs;
 }
 
 -- ---- the other loops
@@ -88,6 +95,8 @@ seen_other r x xs s n h = record {
   loads = h.loads ∙ ap held (sym (total_other r (λ (x : Story). reads_in x.events) x xs n));
   stores = h.stores ∙ ap held (sym (total_other r (λ (x : Story). writes_in x.events) x xs n));
   verdict = (λ e. (λ same. absurd (n same), h.verdict.0 e), λ e. h.verdict.1 e.1);
+  needed = needs_same r AnyWord x xs s.needed (λ same. absurd (n same)) h.needed;
+  needs = λ a. needs_same r (λ b. b ≡ a) x xs (need_at s.needs.items a) (λ same. absurd (n same)) (h.needs a);
 }
 
 -- one of them is changed
@@ -113,7 +122,7 @@ are_seen x xs loops old new at h f = λ r s e.
 -- ---- loops of which nothing was seen
 
 unseen : (r k : ℕ) (s : Seen) → IsSeen r [] s → IsSeen k [] s
-unseen r k s h = record { opened = h.opened; turns = h.turns; words = h.words; loads = h.loads; stores = h.stores; verdict = h.verdict }
+unseen r k s h = record { opened = h.opened; turns = h.turns; words = h.words; loads = h.loads; stores = h.stores; verdict = h.verdict; needed = needs_unseen r k AnyWord s.needed h.needed; needs = λ a. needs_unseen r k (λ b. b ≡ a) (need_at s.needs.items a) (h.needs a) }
 
 -- one more of them
 pub unseen_more : (loops : List Seen) (s : Seen) → AreSeen [] loops → ((r : ℕ) → IsSeen r [] s) → (r : ℕ) (t : Seen) → slice_get (loops ++ (s ∷ [])) r ≡ Some t → IsSeen r [] t

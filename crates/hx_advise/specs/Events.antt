@@ -1,5 +1,5 @@
 -- What the turns of a loop read and write, in order, and when they are independent.
-use Rattle.std.specs.Prelude.{◌≡◌, ◌⊎◌, ◌<◌, ℕ, suc, List, [], ◌∷◌}
+use Rattle.std.specs.Prelude.{◌≡◌, ◌⊎◌, ◌<◌, ℕ, zero, suc, List, [], ◌∷◌}
 
 pub data Event : Type 0 where
   Read : (word : ℕ) → Event
@@ -39,6 +39,19 @@ Wrote (TurnEnd ∷ es) i a = Wrote es i a
 -- no turn reads, before it writes it, a word that an earlier one wrote
 abbrev pub IsIndependent : List Event → Type 0
 IsIndependent es = (i j a : ℕ) → i < j → Wrote es i a → Exposed es j a → ⊥
+
+-- turn j reads, before it writes it, a word that turn i wrote, an earlier one
+abbrev pub Needs : List Event → ℕ → ℕ → ℕ → Type 0
+Needs es i j a = (i < j) × Wrote es i a × Exposed es j a
+
+-- turn j needs one of these words
+abbrev pub NeedsOne : List Event → (ℕ → Type 0) → ℕ → Type 0
+NeedsOne es P j = (i : ℕ) × (a : ℕ) × P a × Needs es i j a
+
+-- of the numbers below n so many have the property
+abbrev pub HowMany : (ℕ → Type 0) → ℕ → ℕ → Type 0
+HowMany Q zero k = k ≡ 0
+HowMany Q (suc n) k = (Q n × (m : ℕ) × (k ≡ suc m) × HowMany Q n m) ⊎ ((Q n → ⊥) × HowMany Q n k)
 
 -- how often a word was read, and one was written
 abbrev pub reads_in : List Event → ℕ

@@ -1,5 +1,5 @@
 -- A run whose loops are watched: which regions it opens, and what is seen of each loop.
-use Rattle.std.specs.Prelude.{◌≡◌, ◌↔◌, ℕ, zero, suc, ◌+◌, ◌-◌, ◌*◌, ◌≤◌, min, Bool, true, false, ◌==◌, if◌then◌else◌, List, [], ◌∷◌, Option, Some, None, IsTrue, IsSome, length, slice_get}
+use Rattle.std.specs.Prelude.{◌≡◌, ◌≢◌, ◌⊎◌, ◌↔◌, ℕ, zero, suc, ◌+◌, ◌-◌, ◌*◌, ◌<◌, ◌≤◌, min, Bool, true, false, ◌==◌, if◌then◌else◌, List, [], ◌∷◌, Option, Some, None, IsTrue, IsSome, length, slice_get}
 use Rattle.hx_code.specs.Code.{CodeView}
 use Rattle.hx_code.specs.Region.{RegionState, held}
 use Rattle.hx_code.specs.Machine.{Machine, machine_step, machine_after}
@@ -9,8 +9,9 @@ use Rattle.hx_advise.specs.declared.program.Advice.{Advice}
 use Rattle.hx_advise.specs.declared.program.Seen.{Seen}
 use Rattle.hx_advise.specs.declared.region.TheConstants.{WORD_LIMIT}
 use Rattle.hx_advise.specs.declared.region.Watched.{Watched}
-use Rattle.hx_advise.specs.Events.{Event, turn_of, reads_in, writes_in, IsIndependent}
-use Rattle.hx_advise.specs.Watch.{Tells}
+use Rattle.hx_advise.specs.declared.watch.Need.{Need}
+use Rattle.hx_advise.specs.Events.{Event, turn_of, reads_in, writes_in, IsIndependent, HowMany, NeedsOne}
+use Rattle.hx_advise.specs.Watch.{Tells, AnyWord, NoneNearer, OneAsNear, need_at}
 use Rattle.hx_advise.specs.Regions.{after, events_after, words_done, IsOver}
 
 -- ---- the regions that a run opens
@@ -70,8 +71,25 @@ abbrev pub Each : ℕ → (Story → Type 0) → List Story → Type 0
 Each r P [] = Unit {0}
 Each r P (x ∷ xs) = (x.region ≡ r → P x) × Each r P xs
 
+-- and what holds of one of them
+abbrev pub SomeTime : ℕ → (Story → Type 0) → List Story → Type 0
+SomeTime r P [] = ⊥
+SomeTime r P (x ∷ xs) = ((x.region ≡ r) × P x) ⊎ SomeTime r P xs
+
+-- k is a sum over the times that region r was opened, of a number for each, that R tells
+abbrev pub SumsTo : ℕ → (Story → ℕ → Type 0) → List Story → ℕ → Type 0
+SumsTo r R [] k = k ≡ 0
+SumsTo r R (x ∷ xs) k = (n : ℕ) × (m : ℕ) × (x.region ≡ r → R x n) × (x.region ≢ r → n ≡ 0) × SumsTo r R xs m × (k ≡ n + m)
+
+-- the need of one of these words in all these times together: the turns that needed one, and the least distance
+pub record AreNeeds (r : ℕ) (P : ℕ → Type 0) (xs : List Story) (n : Need) : Type 0 where
+  pub turns : (k : ℕ) × SumsTo r (λ x. HowMany (NeedsOne x.events P) (suc (turn_of x.events))) xs k × (n.turns ≡ held k)
+  pub least : Each r (λ x. NoneNearer x.events P n.distance) xs
+  pub nearest : 0 < n.turns → SomeTime r (λ x. OneAsNear x.events P n.distance) xs
+  pub none : n.turns ≡ 0 → n.distance ≡ 0
+
 -- of region r it is told how often it was opened, and of all these times together how many whole turns, words, loads and stores there
--- were, and whether its turns were independent each time
+-- were, whether its turns were independent each time, and which words were needed
 pub record IsSeen (r : ℕ) (xs : List Story) (s : Seen) : Type 0 where
   pub opened : s.opened ≡ held (total r (λ x. 1) xs)
   pub turns : s.turns ≡ held (total r (λ x. turn_of x.events) xs)
@@ -79,6 +97,8 @@ pub record IsSeen (r : ℕ) (xs : List Story) (s : Seen) : Type 0 where
   pub loads : s.loads ≡ held (total r (λ x. reads_in x.events) xs)
   pub stores : s.stores ≡ held (total r (λ x. writes_in x.events) xs)
   pub verdict : IsTrue s.is_independent ↔ Each r (λ x. IsIndependent x.events) xs
+  pub needed : AreNeeds r AnyWord xs s.needed
+  pub needs : (a : ℕ) → AreNeeds r (λ b. b ≡ a) xs (need_at s.needs.items a)
 
 -- the same of each loop
 abbrev pub AreSeen : List Story → List Seen → Type 0

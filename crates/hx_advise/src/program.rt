@@ -3,6 +3,7 @@
 ghost use Rattle.std.specs.Prelude.{◌≡◌, ◌↔◌, ◌<◌, ◌≤◌, ℕ, List, [], ◌∷◌, None, IfOk, IsErrOf, IsSome, IsTrue, OnOk, length};
 ghost use Rattle.hx_code.specs.Machine.{InputFits, room_for_input, opening_machine};
 ghost use Rattle.hx_word.specs.Plain.{one_store};
+ghost use Rattle.hx_advise.specs.Watch.{AreBoth, need_at};
 ghost use Rattle.hx_advise.specs.Runs.{Story, IsTold, IsSeen, AreSeen, IsAdvice, Passed};
 
 use crate::region::{WORD_LIMIT, Watched, watch_region};
@@ -76,11 +77,14 @@ impl Seen {
 }
 
 // More needs beside those of other times, word by word.
-fn add_needs(all: &mut Vec<Need>, more: &[Need]) -> Result<(), AllocError> {
+fn add_needs(all: &mut Vec<Need>, more: &[Need]) -> Result<(), AllocError>
+    ensures both { OnOk result ((a : ℕ) → a < length more.now → AreBoth (need_at all.old.items a) (need_at more.now a) (need_at all.new.items a)) }
+    ensures others { OnOk result ((a : ℕ) → length more.now ≤ a → need_at all.new.items a ≡ need_at all.old.items a) }
+{
     for (word, need) in more.iter().enumerate() {
         match all.get_mut(word) {
             Some(sum) => *sum = sum.and(*need),
-            None => all.push(*need)?,
+            None => all.push(Need::NONE.and(*need))?,
         }
     }
     Ok(())
@@ -183,9 +187,9 @@ fn has_ended(plain: Plain<'_>) -> bool
 
 /// Runs code on an input on one thread, for at most so many words, and watches each marked loop that it opens.
 ///
-/// Of each loop it is told how often it was opened, how many whole turns, words, loads and stores there were, and whether its turns were
-/// independent each time: all this is that of the definition, for the words that were done. These are all the run's where it is over
-/// within its words, and else as many as may be, but for 255 for each loop that was opened.
+/// Of each loop it is told how often it was opened, how many whole turns, words, loads and stores there were, whether its turns were
+/// independent each time, and which words were needed: all this is that of the definition, for the words that were done. These are all the
+/// run's where it is over within its words, and else as many as may be, but for 255 for each loop that was opened.
 ///
 /// `InputUnfit` exactly where the input is longer than its array; another error is want of memory.
 pub fn advise(

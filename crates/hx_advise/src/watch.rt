@@ -1,8 +1,8 @@
 // What the turns of a loop read and write, one event after another.
 
-ghost use Rattle.std.specs.Prelude.{◌≡◌, ◌+◌, ◌<◌, ◌^◌, ◌∷◌, ◌↔◌, [], List, IfOk, IsTrue, length};
+ghost use Rattle.std.specs.Prelude.{◌≡◌, ◌+◌, ◌<◌, ◌^◌, ◌∷◌, ◌↔◌, [], ℕ, List, Some, IfOk, IsTrue, length, slice_get, slice_set};
 ghost use Rattle.hx_advise.specs.Events.{Event, Read, Write, TurnEnd, IsIndependent};
-ghost use Rattle.hx_advise.specs.Watch.{Tells};
+ghost use Rattle.hx_advise.specs.Watch.{AnyWord, AreBoth, IsAgain, IsNeed, need_at, Tells};
 
 use std::alloc::{AllocError, Global};
 use std::marker::Model;
@@ -27,7 +27,9 @@ impl Need {
     };
 
     // It is needed in this turn, counted from 1, so many turns behind the one that wrote it.
-    fn again(self, turn: u64, distance: u64) -> Need {
+    fn again(self, turn: u64, distance: u64) -> Need
+        ensures { IsAgain turn distance self result }
+    {
         Need {
             turns: if self.latest == turn {
                 self.turns
@@ -44,7 +46,9 @@ impl Need {
     }
 
     /// Both together, of different times that a loop was opened.
-    pub fn and(self, other: Need) -> Need {
+    pub fn and(self, other: Need) -> Need
+        ensures { AreBoth self other result }
+    {
         Need {
             turns: self.turns.saturating_add(other.turns),
             distance: match (self.turns, other.turns) {
@@ -58,7 +62,7 @@ impl Need {
 }
 
 /// What is kept of the events of a loop: which turn is on, for each word the last turn that wrote it, how many reads and writes there
-/// were, and whether the turns are independent so far. Contracts see these; what each word was needed for is only tested.
+/// were, whether the turns are independent so far, and how words were needed.
 #[derive(Drop)]
 pub struct Watch {
     turn: u64,
@@ -77,7 +81,7 @@ impl Model for Watch {
 
     ghost Value = { WatchView };
 
-    ghost view = { λ w. record { turn = w.turn; writers = w.writers.items; reads = w.reads; writes = w.writes; is_independent = w.is_independent } };
+    ghost view = { λ w. record { turn = w.turn; writers = w.writers.items; reads = w.reads; writes = w.writes; is_independent = w.is_independent; needs = w.needs.items; needed = w.needed } };
 
     ghost invariant = { λ w. (w.turn + 1 < 2 ^ 64) × (vec_len w.needs ≡ vec_len w.writers) };
 }
@@ -103,7 +107,9 @@ impl Watch {
     // The word is needed by the turn that is on, so many turns behind the one that wrote it.
     fn need(&mut self, word: u32, distance: u64)
         requires { word < length self.old.writers }
-        ensures { self.new ≡ self.old }
+        ensures needs { (n : Need) → slice_get self.old.needs word ≡ Some n → (m : Need) × IsAgain (self.old.turn + 1) distance n m × (self.new.needs ≡ slice_set self.old.needs word m) }
+        ensures needed { IsAgain (self.old.turn + 1) distance self.old.needed self.new.needed }
+        ensures rest { self.new ≡ record self.old { needs = self.new.needs; needed = self.new.needed } }
     {
         let turn = self.turn + 1;
         let need = self.needs[word as usize];
@@ -176,15 +182,21 @@ impl Watch {
         self.writes
     }
 
-    /// How each word was needed.
+    /// How each word was needed: in how many turns, which read it before they wrote it where an earlier turn wrote it, and how many turns
+    /// behind the nearest of those that wrote it.
     pub fn needs(&self) -> &[Need]
-        ensures { length result.now ≡ length self.now.writers }
+        ensures told { (events : List Event) → Tells self.now events → (a : ℕ) → IsNeed events (λ b. b ≡ a) (need_at result.now a) }
+        ensures shown { result.now ≡ self.now.needs }
+        ensures words { length result.now ≡ length self.now.writers }
     {
         &self.needs
     }
 
-    /// How any of them was.
-    pub fn needed(&self) -> Need {
+    /// How any of them was: in how many turns one was needed, and how many turns at the least behind one that wrote it.
+    pub fn needed(&self) -> Need
+        ensures told { (events : List Event) → Tells self.now events → IsNeed events AnyWord result }
+        ensures shown { result ≡ self.now.needed }
+    {
         self.needed
     }
 }

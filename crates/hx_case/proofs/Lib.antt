@@ -1,1 +1,4 @@
 pub mod Feeds
+pub mod BadWords
+pub mod Declarations
+pub mod Said

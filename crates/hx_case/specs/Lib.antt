@@ -1,1 +1,4 @@
 pub mod Pointed
+pub mod Names
+pub mod Known
+pub mod Input

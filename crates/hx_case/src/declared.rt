@@ -1,5 +1,11 @@
 // What a program declares.
 
+ghost use Rattle.std.specs.Prelude.{◌≡◌, flat_map, map, option_map};
+ghost use Rattle.hx_tree.specs.View.{global_of, item_of, program_of, shape_of};
+ghost use Rattle.hx_case.specs.Known.{known_of};
+ghost use Rattle.hx_case.specs.Names.{declares, length_of, named};
+ghost use Rattle.hx_case.specs.Names.{Global as GlobalName};
+
 use hx_tree::token::Pos;
 use hx_tree::tree::{
     Func, GlobalDecl, Init, Item, LocalDecl, Name, Params, Part, Program, Shape, Stmt,
@@ -26,16 +32,22 @@ pub(crate) fn parameters(f: &Func) -> &[Name] {
     }
 }
 
-fn known_in<'p>(item: &'p Item, name: &[u8]) -> Option<Known<'p>> {
-    match item {
-        Item::Globals(globals) => {
-            for global in globals {
-                if global.name.text.as_slice() == name {
-                    return Some(Known::Global(global));
-                }
-            }
-            None
+fn known_among<'p>(globals: &'p [GlobalDecl], name: &[u8]) -> Option<Known<'p>>
+    ensures { option_map known_of result ≡ named name.now (map GlobalName (map global_of globals.now)) }
+{
+    for global in globals {
+        if global.name.text.as_slice() == name {
+            return Some(Known::Global(global));
         }
+    }
+    None
+}
+
+fn known_in<'p>(item: &'p Item, name: &[u8]) -> Option<Known<'p>>
+    ensures { option_map known_of result ≡ named name.now (declares (item_of item.now)) }
+{
+    match item {
+        Item::Globals(globals) => known_among(globals.as_slice(), name),
         Item::Function(f) => {
             if f.name.text.as_slice() == name {
                 Some(Known::Function(f))
@@ -47,7 +59,9 @@ fn known_in<'p>(item: &'p Item, name: &[u8]) -> Option<Known<'p>> {
 }
 
 /// What is declared first by this name outside functions.
-pub(crate) fn declared_as<'p>(program: &'p Program, name: &[u8]) -> Option<Known<'p>> {
+pub(crate) fn declared_as<'p>(program: &'p Program, name: &[u8]) -> Option<Known<'p>>
+    ensures { option_map known_of result ≡ named name.now (flat_map declares (program_of program.now).items) }
+{
     for item in &program.items {
         let found = known_in(item, name);
         if found.is_some() {
@@ -147,10 +161,12 @@ pub(crate) fn locals_of(f: &Func, name: &[u8]) -> Locals {
     both(own, of_parts(f.body.as_slice(), name))
 }
 
-/// How many words a global has.
-pub(crate) fn words(shape: &Shape) -> u64 {
+/// How many words an array has.
+pub(crate) fn array_length(shape: &Shape) -> Option<u64>
+    ensures { result ≡ length_of (shape_of shape.now) }
+{
     match shape {
-        Shape::Int(_) => 1,
-        Shape::Array(length, _) => u64::from(*length),
+        Shape::Int(_) => None,
+        Shape::Array(length, _) => Some(u64::from(*length)),
     }
 }

@@ -1,6 +1,16 @@
 // Inputs and settings that don't fit.
 
+ghost use Rattle.std.specs.Prelude.{◌≡◌, ◌↔◌, ◌<◌, ◌≤◌, All, IfOk, IsTrue, MatchOption, OnOk, length};
+ghost use Rattle.std.specs.Fmt.{signed_decimal};
+ghost use Rattle.std.specs.List.{prefix_len};
+ghost use Rattle.hx_tree.specs.Tree.{Program};
+ghost use Rattle.hx_tree.specs.Grammar.{Spells};
+ghost use Rattle.hx_input.specs.InputText.{is_in_word, words_of};
+ghost use Rattle.hx_case.specs.Input.{IsFirstBad, IsNumber, IsTextCase, input_case, long_text_case, out_of_range, settings_case};
+ghost use Rattle.hx_case.specs.Names.{input_room};
+
 use crate::limit::input_room;
+use crate::line::first;
 use crate::say::{plural, say};
 use hx_lex::{is_space, tokens};
 use hx_parse::parse;
@@ -8,22 +18,23 @@ use hx_tree::limits::{INPUT_LIMIT, TABLE_LIMIT, WORKER_LIMIT};
 use hx_tree::outcome::Settings;
 use itoa::Buffer;
 use std::alloc::{AllocError, Global};
+use std::str;
 
-/// Why so many numbers don't fit the program of a source (61).
-pub fn case_of_input(alloc: Global, source: &[u8], count: usize) -> Result<Vec<u8>, AllocError> {
-    let all = tokens(alloc, source).map_err(|_| AllocError)?;
-    let program = parse(alloc, all.as_slice()).map_err(|_| AllocError)?;
+// What is said of so many numbers, and of the room for them.
+fn said_of_input(alloc: Global, count: usize, room: Option<u64>) -> Result<Vec<u8>, AllocError>
+    ensures { IfOk result (λ v. v.items ≡ input_case count room) }
+{
     let mut has = Buffer::new();
-    let mut room = Buffer::new();
+    let mut most = Buffer::new();
     let has = has.format(count).as_bytes();
-    match input_room(&program) {
+    match room {
         Some(words) => say(
             alloc,
             &[
                 b"The input has ",
                 has,
                 b" numbers, and the array 'in' has room for ",
-                room.format(words).as_bytes(),
+                most.format(words).as_bytes(),
                 b".\n",
             ],
         ),
@@ -40,55 +51,70 @@ pub fn case_of_input(alloc: Global, source: &[u8], count: usize) -> Result<Vec<u
     }
 }
 
-// Whether the word is a number of an input: a decimal of 32 bits without zeros in front.
-fn is_number(word: &[u8]) -> bool {
-    let (digits, limit) = match word {
-        [b'-', digits @ ..] => (digits, b"2147483648"),
-        digits => (digits, b"2147483647"),
+/// Why so many numbers don't fit the program of a source (61): how many words the array `in` has, or that there is none.
+pub fn case_of_input(alloc: Global, source: &[u8], count: usize) -> Result<Vec<u8>, AllocError>
+    ensures spelled { OnOk result ((p : Program) × Spells source.now p) }
+    ensures told { IfOk result (λ v. (p : Program) → Spells source.now p → v.items ≡ input_case count (input_room p)) }
+{
+    let Ok(all) = tokens(alloc, source) else {
+        return Err(AllocError);
     };
-    match digits {
-        [] => false,
-        b"0" => word.len() == 1,
-        [b'0', ..] => false,
-        _ => {
-            let fits = digits.len() < limit.len()
-                || (digits.len() == limit.len() && is_at_most(digits, limit));
-            digits.iter().all(|b| b.is_ascii_digit()) && fits
-        }
-    }
+    let Ok(program) = parse(alloc, all.as_slice()) else {
+        return Err(AllocError);
+    };
+    said_of_input(alloc, count, input_room(&program))
 }
 
-// Whether digits are at most others of the same count.
-fn is_at_most(digits: &[u8], limit: &[u8]) -> bool {
-    for (digit, most) in digits.iter().zip(limit) {
-        if digit != most {
-            return digit < most;
-        }
-    }
-    true
+// How many bytes stand before the first blank.
+fn word_len(bytes: &[u8]) -> usize
+    ensures { result ≡ prefix_len is_in_word bytes.now }
+{
+    bytes.iter().take_while(|b| !is_space(**b)).count()
+}
+
+// Whether the word is how the number is printed, with no other zeros or signs.
+fn is_decimal_of(word: &[u8], value: i32) -> bool
+    ensures { IsTrue result ↔ (word.now ≡ signed_decimal value) }
+{
+    let mut buffer = Buffer::new();
+    buffer.format(value).as_bytes() == word
+}
+
+// Whether the word is a number of an input: a decimal of 32 bits without zeros in front.
+fn is_number(word: &[u8]) -> bool
+    ensures { IsTrue result ↔ IsNumber word.now }
+{
+    let Ok(text) = str::from_utf8(word) else {
+        return false;
+    };
+    let Ok(value) = text.parse::<i32>() else {
+        return false;
+    };
+    is_decimal_of(word, value)
 }
 
 // The first word that is no number.
-fn bad_word(text: &[u8]) -> Option<&[u8]> {
-    let mut rest = text;
-    for _ in 0..text.len() {
-        let blanks = rest.iter().take_while(|b| is_space(**b)).count();
-        let (_, behind) = rest.split_at(blanks);
-        let count = behind.iter().take_while(|b| !is_space(**b)).count();
-        let (word, behind) = behind.split_at(count);
-        if word.is_empty() {
-            return None;
-        }
-        if !is_number(word) {
+fn bad_word(text: &[u8]) -> Option<&[u8]>
+    ensures { MatchOption result (All IsNumber (words_of text.now)) (λ w. IsFirstBad text.now w.now) }
+{
+    let mut at = 0;
+    while at < text.len() {
+        let (_, rest) = text.split_at(at);
+        let len = word_len(rest);
+        let word = &rest[..len];
+        if len > 0 && !is_number(word) {
             return Some(word);
         }
-        rest = behind;
+        at += len + 1;
     }
     None
 }
 
-/// Why a text is no input (65).
-pub fn case_of_input_text(alloc: Global, text: &[u8]) -> Result<Vec<u8>, AllocError> {
+/// Why a text is no input (65): it is too long, or this word of it is no number.
+pub fn case_of_input_text(alloc: Global, text: &[u8]) -> Result<Vec<u8>, AllocError>
+    ensures long { INPUT_LIMIT < length text.now → IfOk result (λ v. v.items ≡ long_text_case) }
+    ensures short { length text.now ≤ INPUT_LIMIT → IfOk result (λ v. IsTextCase text.now v.items) }
+{
     if text.len() > INPUT_LIMIT {
         let mut most = Buffer::new();
         let most = most.format(INPUT_LIMIT).as_bytes();
@@ -96,10 +122,9 @@ pub fn case_of_input_text(alloc: Global, text: &[u8]) -> Result<Vec<u8>, AllocEr
     }
     match bad_word(text) {
         Some(word) => {
-            let count = word.len().min(80);
             say(
                 alloc,
-                &[b"'", &word[..count], b"' is no number of the input.\n"],
+                &[b"'", first(word, 80), b"' is no number of the input.\n"],
             )
         }
         None => say(alloc, &[b"The input is no list of numbers.\n"]),
@@ -107,7 +132,9 @@ pub fn case_of_input_text(alloc: Global, text: &[u8]) -> Result<Vec<u8>, AllocEr
 }
 
 // `OPTION N is out of range: it goes from 1 to M.`
-fn out_of_range(alloc: Global, option: &[u8], has: u32, limit: u32) -> Result<Vec<u8>, AllocError> {
+fn out_of_range(alloc: Global, option: &[u8], has: u32, limit: u32) -> Result<Vec<u8>, AllocError>
+    ensures { IfOk result (λ v. v.items ≡ out_of_range option.now has limit) }
+{
     let mut number = Buffer::new();
     let mut most = Buffer::new();
     let mut text = Vec::from_slice(alloc, option)?;
@@ -119,8 +146,10 @@ fn out_of_range(alloc: Global, option: &[u8], has: u32, limit: u32) -> Result<Ve
     Ok(text)
 }
 
-/// Which settings are out of range (60).
-pub fn case_of_settings(alloc: Global, settings: Settings) -> Result<Vec<u8>, AllocError> {
+/// Which setting is out of range (60), and up to which number it may go.
+pub fn case_of_settings(alloc: Global, settings: Settings) -> Result<Vec<u8>, AllocError>
+    ensures { IfOk result (λ v. v.items ≡ settings_case settings) }
+{
     if settings.workers == 0 || settings.workers > WORKER_LIMIT {
         out_of_range(alloc, b"--workers", settings.workers, WORKER_LIMIT)
     } else if settings.marks == 0 || settings.marks > TABLE_LIMIT {

@@ -1,7 +1,11 @@
 // Programs that pass a limit, or have no `int main()`.
 
+ghost use Rattle.std.specs.Prelude.{◌≡◌};
+ghost use Rattle.hx_tree.specs.View.{program_of};
+ghost use Rattle.hx_case.specs.Names.{input_room};
+
 use crate::bytes::word_at;
-use crate::declared::{Known, declared_as, locals_of, parameters, words};
+use crate::declared::{Known, array_length, declared_as, locals_of, parameters};
 use crate::say::{quoted, say};
 use hx_tree::limits::{
     ARRAY_LIMIT, FUNCTION_LIMIT, GLOBAL_LIMIT, OPERAND_LIMIT, PARAMETER_LIMIT, PRIVATE_LIMIT,
@@ -165,12 +169,11 @@ pub(crate) fn passed(
 }
 
 /// How many words the array `in` has, where there is one.
-pub(crate) fn input_room(program: &Program) -> Option<u64> {
+pub(crate) fn input_room(program: &Program) -> Option<u64>
+    ensures { result ≡ input_room (program_of program.now) }
+{
     match declared_as(program, b"in") {
-        Some(Known::Global(global)) => match &global.shape {
-            Shape::Array(_, _) => Some(words(&global.shape)),
-            Shape::Int(_) => None,
-        },
+        Some(Known::Global(global)) => array_length(&global.shape),
         _ => None,
     }
 }

@@ -1,9 +1,14 @@
 // Sentences, put together from parts.
 
+ghost use Rattle.std.specs.Prelude.{◌≡◌, flat_map, IfOk};
+ghost use Rattle.hx_case.specs.Input.{plural};
+
 use std::alloc::{AllocError, Global};
 
 /// Some texts, one behind another.
-pub(crate) fn say(alloc: Global, parts: &[&[u8]]) -> Result<Vec<u8>, AllocError> {
+pub(crate) fn say(alloc: Global, parts: &[&[u8]]) -> Result<Vec<u8>, AllocError>
+    ensures { IfOk result (λ v. v.items ≡ flat_map (λ p. p.now) parts.now) }
+{
     let mut text = Vec::new(alloc);
     for part in parts {
         text.extend_from_slice(part)?;
@@ -20,6 +25,8 @@ pub(crate) fn quoted(alloc: Global, name: &[u8], why: &[u8]) -> Result<Vec<u8>, 
 }
 
 /// The end of a word that counts so many things.
-pub(crate) fn plural(count: usize) -> &'static [u8] {
+pub(crate) fn plural(count: usize) -> &'static [u8]
+    ensures { result.now ≡ plural count }
+{
     if count == 1 { b"" } else { b"s" }
 }

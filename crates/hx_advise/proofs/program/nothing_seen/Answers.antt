@@ -10,5 +10,5 @@ loop-k-preserved c =
     let items = c.in_ok-push.ensures.items in
     record {
       long = omega (arith, i.long, ap length items, length-append c.loop-k.loops.items (c.nothing.result ∷ []));
-      seen = subst (λ (xs : List Seen). AreSeen [] xs) (sym items) (unseen_more c.loop-k.loops.items c.nothing.result i.seen c.nothing.ensures);
+      seen = subst (λ (xs : List Seen). AreSeen [] xs) (sym {A = List Seen} items) (unseen_more c.loop-k.loops.items c.nothing.result i.seen c.nothing.ensures);
     }

@@ -7,4 +7,4 @@ pub returns-clause-tells : goal.returns-clause-tells
 returns-clause-tells c = λ es t.
     let lt = subst (λ (w : WatchView). c.args.word < length w.writers) (sym c.self.view_is) c.requires in
     let before = subst (λ (w : WatchView). Tells w es) (sym c.self.view_is) t in
-    tells_write _ _ es c.args.word lt refl refl refl c.saturating_add-self-inside.ensures refl before
+    tells_write _ _ es c.args.word lt refl refl refl c.saturating_add-self-inside.ensures refl refl refl before
