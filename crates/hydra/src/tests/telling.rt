@@ -129,12 +129,12 @@ worker 1 loads sum: 4\n\
 worker 1 loads a[2]: 5\n\
 state running\nturns 1\nrepeats 0\nviolations 0\nrestarts 0\nholds 0\nabandons 0\ndiscarded 0\nspared 0\n";
 
-// Elements of an array by their places in it, and a carried local by its own name, which stands behind two others of the function.
+// Elements of an array by their places in it, and a carried local by its own name, which stands behind three others of the function, one of them in a `do`.
 #[test]
 fn tells_names(rt: HostRuntime) -> Result<(), Fail> {
     let p = "hydra-test-tells-names.hc";
     let source =
-        b"int g; int a[3] = {3,4,5}; int h; int other(){ int x; return 0; } int main(){ int y; { int z; z=1; } int sum=0; pfor(int i=1;i<3;i++) sum=sum+a[i]; print(sum); }";
+        b"int g; int a[3] = {3,4,5}; int h; int other(){ int x; return 0; } int main(){ int y; { int z; z=1; } do { int w; w=1; } while(0); int sum=0; pfor(int i=1;i<3;i++) sum=sum+a[i]; print(sum); }";
     tells(&rt, p, source, "000000111", "64", NAMES)
 }
 
