@@ -106,9 +106,13 @@ row_line names printed n attempts row e = line_of (decimal (row + 1)) n (lane_wo
 abbrev pub row_lines : List Called → List ℕ → ℕ → List Attempt → ℕ → List Event → List ℕ
 row_lines names printed n attempts row events = flat_map (λ p. row_line names printed n attempts p.0 p.1) (enumerate_from row events)
 
+-- the table of events; `printed` is what the region has printed
+abbrev pub table_of : List Called → List ℕ → List Event → List ℕ
+table_of names printed events = let n = lane_count events in head_line n ++ row_lines names printed n (attempts_of events) 0 events
+
 -- THE table of a replay that is told
 abbrev pub timeline_table : List Called → Told → List ℕ
-timeline_table names t = let events = t.events.items in let n = lane_count events in head_line n ++ row_lines names t.trace.text.items n (attempts_of events) 0 events
+timeline_table names t = table_of names t.trace.text.items t.events.items
 
 -- ---- within a table
 

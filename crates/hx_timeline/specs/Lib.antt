@@ -1,2 +1,3 @@
 pub mod Chart
 pub mod Columns
+pub mod Rows
