@@ -1,6 +1,5 @@
 -- Cells beside one another, and the blanks between them.
-use Rattle.std.proofs.Common.{◌≡◌, ℕ, zero, suc, ◌+◌, ◌-◌, ◌<◌, ◌≤◌, max, List, [], ◌∷◌, ◌++◌, length, replicate, refl, ap, sym, ◌∙◌, arith, append_assoc, append-nil, Result, Ok, Err, OnOk}
-use Rattle.std.specs.Prelude.{is_ok, if◌then◌else◌}
+use Rattle.std.proofs.Common.{◌≡◌, ℕ, zero, suc, ◌+◌, ◌-◌, ◌<◌, ◌≤◌, max, List, [], ◌∷◌, ◌++◌, length, replicate, refl, ap, sym, ◌∙◌, arith, append_assoc, append-nil}
 use Rattle.std.specs.List.{range_with_len}
 use Rattle.std.proofs.lemmas.List.{replicate-append-replicate}
 use Rattle.hx_timeline.specs.Columns.{blanks_ahead, cell_ahead, lanes_from, PutsCell}
@@ -43,8 +42,3 @@ module _ (words : ℕ → List ℕ) (n w : ℕ) (whole : List ℕ) where
   lanes_put text blanks le before =
       let none : n - w ≡ 0 = omega arith in
       sym (append-nil text) ∙ sym (ap (λ k. text ++ blanks_ahead blanks (lanes_from words (range_with_len w k))) none) ∙ before
-
--- the end of a line
-pub line_put : {A E : Type 0} (r : Result A E) (old text new line : List ℕ) → text ≡ old ++ line → new ≡ (if is_ok r then text ++ 10 ∷ [] else text) → OnOk r (new ≡ old ++ (line ++ 10 ∷ []))
-line_put (Ok a) old text new line whole put = put ∙ ap (λ l. l ++ 10 ∷ []) whole ∙ append_assoc old line (10 ∷ [])
-line_put (Err e) old text new line whole put = tt

@@ -1,5 +1,8 @@
 // A timeline as SVG.
 
+ghost use Rattle.std.specs.Prelude.{◌≡◌, ◌++◌, flat_map, IfOk, OnOk};
+ghost use Rattle.hx_timeline.specs.Drawing.{left_of, middle_of, size_of, style_of, rectangle, box_of, IsPicture};
+
 use crate::chart::{Attempt, Chart, Fate, Link, chart_of};
 use crate::labels::{put_label, put_number};
 use hx_trace::{Called, Event, Told};
@@ -23,16 +26,48 @@ const INSET: u64 = 12;
 /// edge where it was squashed, dotted where it was dropped, and with a thin edge where it runs still. An arrow leads from the store of a
 /// value to the load that it was forwarded to; a diamond stands at a store that violates, with a line to each attempt that it ends. An
 /// `Err` means that an allocation was refused.
-pub fn picture(alloc: Global, names: &[Called], told: &Told) -> Result<Vec<u8>, AllocError> {
+pub fn picture(alloc: Global, names: &[Called], told: &Told) -> Result<Vec<u8>, AllocError>
+    ensures { IfOk result (λ svg. IsPicture told.now.events.items svg.items) }
+{
     let chart = chart_of(alloc, &told.events)?;
+    let below = below_boxes(alloc, &chart)?;
+    let above = above_boxes(alloc, &chart, names, told)?;
     let mut svg = Vec::new(alloc);
-    put_opening(&mut svg, &chart)?;
+    svg.extend_from_slice(b"<svg xmlns=\"http://www.w3.org/2000/svg\"")?;
+    svg.extend_from_slice(&below)?;
+    put_boxes(&mut svg, &chart.attempts)?;
+    svg.extend_from_slice(&above)?;
+    svg.extend_from_slice(b"</svg>\n")?;
+    Ok(svg)
+}
+
+// What lies below the boxes: the ground, and the heads of the lanes.
+fn below_boxes(alloc: Global, chart: &Chart) -> Result<Vec<u8>, AllocError> {
+    let mut svg = Vec::new(alloc);
+    put_ground(&mut svg, chart)?;
     for worker in 0..chart.lanes {
         put_head(&mut svg, worker)?;
     }
-    for attempt in &chart.attempts {
-        put_box(&mut svg, *attempt)?;
+    Ok(svg)
+}
+
+fn put_boxes(svg: &mut Vec<u8>, attempts: &[Attempt]) -> Result<(), AllocError>
+    ensures { OnOk result (svg.new.items ≡ svg.old.items ++ flat_map box_of attempts.now) }
+{
+    for attempt in attempts {
+        put_box(svg, *attempt)?;
     }
+    Ok(())
+}
+
+// What lies above the boxes: lines, arrows, and what was done.
+fn above_boxes(
+    alloc: Global,
+    chart: &Chart,
+    names: &[Called],
+    told: &Told,
+) -> Result<Vec<u8>, AllocError> {
+    let mut svg = Vec::new(alloc);
     for link in &chart.violations {
         put_violation(&mut svg, *link)?;
     }
@@ -42,23 +77,28 @@ pub fn picture(alloc: Global, names: &[Called], told: &Told) -> Result<Vec<u8>, 
     for (row, event) in told.events.iter().enumerate() {
         put_event(&mut svg, names, &told.trace.text, row, *event)?;
     }
-    svg.extend_from_slice(b"</svg>\n")?;
     Ok(svg)
 }
 
 // Where a lane begins, from the left.
-fn left_of(worker: u32) -> u64 {
+fn left_of(worker: u32) -> u64
+    ensures { result ≡ left_of worker }
+{
     LEFT.saturating_add(LANE.saturating_mul(u64::from(worker)))
 }
 
 // Where the middle of a row is, from the top.
-fn middle_of(row: usize) -> u64 {
+fn middle_of(row: usize) -> u64
+    ensures { result ≡ middle_of row }
+{
     TOP.saturating_add(ROW.saturating_mul(row as u64))
         .saturating_add(ROW / 2)
 }
 
 // ` name="value"`
-fn put_size(svg: &mut Vec<u8>, name: &[u8], value: u64) -> Result<(), AllocError> {
+fn put_size(svg: &mut Vec<u8>, name: &[u8], value: u64) -> Result<(), AllocError>
+    ensures { OnOk result (svg.new.items ≡ svg.old.items ++ size_of name.now value) }
+{
     svg.extend_from_slice(b" ")?;
     svg.extend_from_slice(name)?;
     svg.extend_from_slice(b"=\"")?;
@@ -66,10 +106,10 @@ fn put_size(svg: &mut Vec<u8>, name: &[u8], value: u64) -> Result<(), AllocError
     svg.extend_from_slice(b"\"")
 }
 
-fn put_opening(svg: &mut Vec<u8>, chart: &Chart) -> Result<(), AllocError> {
+// The rest of the opening, the patterns, and a white ground.
+fn put_ground(svg: &mut Vec<u8>, chart: &Chart) -> Result<(), AllocError> {
     let width = left_of(chart.lanes).saturating_add(INSET);
     let height = middle_of(chart.rows).saturating_add(INSET);
-    svg.extend_from_slice(b"<svg xmlns=\"http://www.w3.org/2000/svg\"")?;
     put_size(svg, b"width", width)?;
     put_size(svg, b"height", height)?;
     svg.extend_from_slice(b" font-family=\"sans-serif\" font-size=\"13\">\n")?;
@@ -99,7 +139,9 @@ fn put_head(svg: &mut Vec<u8>, worker: u32) -> Result<(), AllocError> {
 }
 
 // How the box of an attempt is drawn.
-fn style_of(fate: Fate) -> &'static [u8] {
+fn style_of(fate: Fate) -> &'static [u8]
+    ensures { result.now ≡ style_of fate }
+{
     match fate {
         Fate::Runs => b" fill=\"white\" stroke=\"black\" stroke-width=\"0.7\"",
         Fate::Committed => b" fill=\"white\" stroke=\"black\" stroke-width=\"2\"",
@@ -112,15 +154,29 @@ fn style_of(fate: Fate) -> &'static [u8] {
     }
 }
 
-fn put_box(svg: &mut Vec<u8>, attempt: Attempt) -> Result<(), AllocError> {
+fn put_box(svg: &mut Vec<u8>, attempt: Attempt) -> Result<(), AllocError>
+    ensures { OnOk result (svg.new.items ≡ svg.old.items ++ box_of attempt) }
+{
     let top = middle_of(attempt.first).saturating_sub(ROW / 2 - 2);
     let bottom = middle_of(attempt.last).saturating_add(ROW / 2 - 2);
+    put_rectangle(svg, attempt.worker, top, bottom, style_of(attempt.fate))
+}
+
+fn put_rectangle(
+    svg: &mut Vec<u8>,
+    worker: u32,
+    top: u64,
+    bottom: u64,
+    style: &[u8],
+) -> Result<(), AllocError>
+    ensures { OnOk result (svg.new.items ≡ svg.old.items ++ rectangle worker top bottom style.now) }
+{
     svg.extend_from_slice(b"<rect rx=\"3\"")?;
-    put_size(svg, b"x", left_of(attempt.worker).saturating_add(INSET))?;
+    put_size(svg, b"x", left_of(worker).saturating_add(INSET))?;
     put_size(svg, b"y", top)?;
     put_size(svg, b"width", BOX)?;
     put_size(svg, b"height", bottom.saturating_sub(top))?;
-    svg.extend_from_slice(style_of(attempt.fate))?;
+    svg.extend_from_slice(style)?;
     svg.extend_from_slice(b"/>\n")
 }
 

@@ -1,6 +1,7 @@
 use Rattle.std.proofs.Common.{◌≡◌, ◌++◌, ap, ◌∙◌, arith}
 use Rattle.hx_timeline.specs.Columns.{lane_words}
-use Rattle.hx_timeline.proofs.Cells.{lane_put, lanes_put, line_put}
+use Rattle.hx_timeline.proofs.Cells.{lane_put, lanes_put}
+use Rattle.hx_timeline.proofs.Texts.{last_put}
 use Rattle.hx_timeline.proofs.columns.put_row.Goals as goal
 
 pub loop-worker-preserved : goal.loop-worker-preserved
@@ -18,4 +19,4 @@ pub returns : goal.returns
 returns c fits =
     let words = lane_words c.args.names.now c.args.printed.now c.args.chart.now.attempts.items c.args.row c.args.event in
     let whole = lanes_put words c.args.chart.now.lanes c.loop-worker.worker _ c.loop-worker.text.items c.loop-worker.blanks c.loop-worker-test.false (c.loop-worker.invariant.text fits) in
-    line_put c.extend_from_slice.result c.args.text.now.items c.loop-worker.text.items c.extend_from_slice.new.self.items _ whole c.extend_from_slice.ensures.items
+    last_put c.extend_from_slice.result c.args.text.now.items c.loop-worker.text.items c.extend_from_slice.new.self.items _ _ whole c.extend_from_slice.ensures.items
