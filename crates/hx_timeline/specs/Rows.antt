@@ -9,7 +9,7 @@ use Rattle.hx_trace.specs.declared.trace.Trace.{Trace}
 use Rattle.hx_timeline.specs.declared.chart.Fate.{Fate}
 use Rattle.hx_timeline.specs.declared.chart.Fate.TheVariants.{Runs, Committed, Squashed, Dropped}
 use Rattle.hx_timeline.specs.declared.chart.Attempt.{Attempt}
-use Rattle.hx_timeline.specs.Chart.{lane_count, attempts_of, violations_of, forwards_of}
+use Rattle.hx_timeline.specs.Chart.{attempts_of, violations_of, forwards_of}
 use Rattle.hx_timeline.specs.Columns.{table_of}
 
 abbrev told : (worker iteration attempt : ℕ) → Deed → Event

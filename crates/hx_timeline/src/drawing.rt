@@ -1,7 +1,8 @@
 // A timeline as SVG.
 
-ghost use Rattle.std.specs.Prelude.{◌≡◌, ◌++◌, flat_map, IfOk, OnOk};
-ghost use Rattle.hx_timeline.specs.Drawing.{left_of, middle_of, size_of, style_of, rectangle, box_of, IsPicture};
+ghost use Rattle.std.specs.Prelude.{◌≡◌, ◌++◌, ◌-◌, ◌^◌, ◌<◌, flat_map, IfOk, OnOk};
+ghost use Rattle.hx_timeline.specs.Drawing.{left_of, middle_of, size_of, style_of, rectangle, box_of, side_from, side_to, line_of, arrow_of, violation_of, number_of, words_of, event_of, events_from, IsPicture};
+ghost use Rattle.hx_timeline.specs.Columns.{label_of};
 
 use crate::chart::{Attempt, Chart, Fate, Link, chart_of};
 use crate::labels::{put_label, put_number};
@@ -27,22 +28,23 @@ const INSET: u64 = 12;
 /// value to the load that it was forwarded to; a diamond stands at a store that violates, with a line to each attempt that it ends. An
 /// `Err` means that an allocation was refused.
 pub fn picture(alloc: Global, names: &[Called], told: &Told) -> Result<Vec<u8>, AllocError>
-    ensures { IfOk result (λ svg. IsPicture told.now.events.items svg.items) }
+    ensures { IfOk result (λ svg. IsPicture names.now told.now svg.items) }
 {
     let chart = chart_of(alloc, &told.events)?;
-    let below = below_boxes(alloc, &chart)?;
-    let above = above_boxes(alloc, &chart, names, told)?;
+    let ground = ground_of(alloc, &chart)?;
     let mut svg = Vec::new(alloc);
     svg.extend_from_slice(b"<svg xmlns=\"http://www.w3.org/2000/svg\"")?;
-    svg.extend_from_slice(&below)?;
+    svg.extend_from_slice(&ground)?;
     put_boxes(&mut svg, &chart.attempts)?;
-    svg.extend_from_slice(&above)?;
+    put_violations(&mut svg, &chart.violations)?;
+    put_forwards(&mut svg, &chart.forwards)?;
+    put_events(&mut svg, names, &told.trace.text, &told.events)?;
     svg.extend_from_slice(b"</svg>\n")?;
     Ok(svg)
 }
 
-// What lies below the boxes: the ground, and the heads of the lanes.
-fn below_boxes(alloc: Global, chart: &Chart) -> Result<Vec<u8>, AllocError> {
+// The rest of the opening, the ground, and the heads of the lanes.
+fn ground_of(alloc: Global, chart: &Chart) -> Result<Vec<u8>, AllocError> {
     let mut svg = Vec::new(alloc);
     put_ground(&mut svg, chart)?;
     for worker in 0..chart.lanes {
@@ -60,24 +62,36 @@ fn put_boxes(svg: &mut Vec<u8>, attempts: &[Attempt]) -> Result<(), AllocError>
     Ok(())
 }
 
-// What lies above the boxes: lines, arrows, and what was done.
-fn above_boxes(
-    alloc: Global,
-    chart: &Chart,
+fn put_violations(svg: &mut Vec<u8>, violations: &[Link]) -> Result<(), AllocError>
+    ensures { OnOk result (svg.new.items ≡ svg.old.items ++ flat_map violation_of violations.now) }
+{
+    for link in violations {
+        put_violation(svg, *link)?;
+    }
+    Ok(())
+}
+
+fn put_forwards(svg: &mut Vec<u8>, forwards: &[Link]) -> Result<(), AllocError>
+    ensures { OnOk result (svg.new.items ≡ svg.old.items ++ flat_map arrow_of forwards.now) }
+{
+    for link in forwards {
+        put_forward(svg, *link)?;
+    }
+    Ok(())
+}
+
+fn put_events(
+    svg: &mut Vec<u8>,
     names: &[Called],
-    told: &Told,
-) -> Result<Vec<u8>, AllocError> {
-    let mut svg = Vec::new(alloc);
-    for link in &chart.violations {
-        put_violation(&mut svg, *link)?;
+    printed: &[u8],
+    events: &[Event],
+) -> Result<(), AllocError>
+    ensures { OnOk result (svg.new.items ≡ svg.old.items ++ events_from names.now printed.now 0 events.now) }
+{
+    for (row, event) in events.iter().enumerate() {
+        put_event(svg, names, printed, row, *event)?;
     }
-    for link in &chart.forwards {
-        put_forward(&mut svg, *link)?;
-    }
-    for (row, event) in told.events.iter().enumerate() {
-        put_event(&mut svg, names, &told.trace.text, row, *event)?;
-    }
-    Ok(svg)
+    Ok(())
 }
 
 // Where a lane begins, from the left.
@@ -181,7 +195,10 @@ fn put_rectangle(
 }
 
 // The sides of two boxes that face each other, from the left.
-fn sides(link: Link) -> (u64, u64) {
+fn sides(link: Link) -> (u64, u64)
+    ensures from { result.0 ≡ side_from link }
+    ensures to { result.1 ≡ side_to link }
+{
     let (from, to) = (left_of(link.from), left_of(link.to));
     if link.from < link.to {
         (from.saturating_add(INSET + BOX), to.saturating_add(INSET))
@@ -190,7 +207,9 @@ fn sides(link: Link) -> (u64, u64) {
     }
 }
 
-fn put_line(svg: &mut Vec<u8>, link: Link) -> Result<(), AllocError> {
+fn put_line(svg: &mut Vec<u8>, link: Link) -> Result<(), AllocError>
+    ensures { OnOk result (svg.new.items ≡ svg.old.items ++ line_of link) }
+{
     let (from, to) = sides(link);
     svg.extend_from_slice(b"<line stroke=\"black\"")?;
     put_size(svg, b"x1", from)?;
@@ -199,20 +218,23 @@ fn put_line(svg: &mut Vec<u8>, link: Link) -> Result<(), AllocError> {
     put_size(svg, b"y2", middle_of(link.to_row))
 }
 
-fn put_forward(svg: &mut Vec<u8>, link: Link) -> Result<(), AllocError> {
+fn put_forward(svg: &mut Vec<u8>, link: Link) -> Result<(), AllocError>
+    ensures { OnOk result (svg.new.items ≡ svg.old.items ++ arrow_of link) }
+{
     put_line(svg, link)?;
     svg.extend_from_slice(b" stroke-width=\"1.5\" marker-end=\"url(#tip)\"/>\n")
 }
 
 // A thick line, and a diamond at the store.
-fn put_violation(svg: &mut Vec<u8>, link: Link) -> Result<(), AllocError> {
+fn put_violation(svg: &mut Vec<u8>, link: Link) -> Result<(), AllocError>
+    ensures { OnOk result (svg.new.items ≡ svg.old.items ++ violation_of link) }
+{
     let (from, _) = sides(link);
-    let y = middle_of(link.from_row);
     put_line(svg, link)?;
     svg.extend_from_slice(b" stroke-width=\"3\"/>\n<path d=\"M")?;
     put_number(svg, from.saturating_sub(7))?;
     svg.extend_from_slice(b" ")?;
-    put_number(svg, y)?;
+    put_number(svg, middle_of(link.from_row))?;
     svg.extend_from_slice(b"l7 -7l7 7l-7 7z\"/>\n")
 }
 
@@ -222,21 +244,41 @@ fn put_event(
     printed: &[u8],
     row: usize,
     event: Event,
-) -> Result<(), AllocError> {
+) -> Result<(), AllocError>
+    ensures { row < 2 ^ 64 - 1 → OnOk result (svg.new.items ≡ svg.old.items ++ event_of names.now printed.now row event) }
+{
     let y = middle_of(row).saturating_add(4);
+    put_row_number(svg, row, y)?;
+    put_words(svg, names, printed, event, y)
+}
+
+// The number of a row, at this height.
+fn put_row_number(svg: &mut Vec<u8>, row: usize, y: u64) -> Result<(), AllocError>
+    ensures { row < 2 ^ 64 - 1 → OnOk result (svg.new.items ≡ svg.old.items ++ number_of row y) }
+{
     svg.extend_from_slice(b"<text fill=\"#555\" text-anchor=\"end\"")?;
     put_size(svg, b"x", LEFT - 8)?;
     put_size(svg, b"y", y)?;
     svg.extend_from_slice(b">")?;
     put_number(svg, row.saturating_add(1) as u64)?;
+    svg.extend_from_slice(b"</text>\n")
+}
+
+// What was done, at this height.
+fn put_words(
+    svg: &mut Vec<u8>,
+    names: &[Called],
+    printed: &[u8],
+    event: Event,
+    y: u64,
+) -> Result<(), AllocError>
+    ensures { OnOk result (svg.new.items ≡ svg.old.items ++ words_of event.worker y (label_of names.now printed.now event event.deed)) }
+{
+    let x = left_of(event.worker).saturating_add(INSET + BOX / 2);
     svg.extend_from_slice(
-        b"</text>\n<text text-anchor=\"middle\" paint-order=\"stroke\" stroke=\"white\" stroke-width=\"3\"",
+        b"<text text-anchor=\"middle\" paint-order=\"stroke\" stroke=\"white\" stroke-width=\"3\"",
     )?;
-    put_size(
-        svg,
-        b"x",
-        left_of(event.worker).saturating_add(INSET + BOX / 2),
-    )?;
+    put_size(svg, b"x", x)?;
     put_size(svg, b"y", y)?;
     svg.extend_from_slice(b">")?;
     put_label(svg, names, printed, event)?;
