@@ -1,6 +1,6 @@
 -- A timeline as SVG. Sizes are in pixels.
 use Rattle.std.specs.Prelude.{◌≡◌, ℕ, ◌+◌, ◌-◌, ◌*◌, ◌^◌, min, List, ◌++◌, flat_map, nat_lt, if◌then◌else◌, codes, decimal}
-use Rattle.std.specs.List.{enumerate_from}
+use Rattle.std.specs.List.{range_with_len, enumerate_from}
 use Rattle.hx_trace.specs.declared.event.Event.{Event}
 use Rattle.hx_trace.specs.declared.telling.Called.{Called}
 use Rattle.hx_trace.specs.declared.trace.Told.{Told}
@@ -8,7 +8,7 @@ use Rattle.hx_timeline.specs.declared.chart.Fate.{Fate}
 use Rattle.hx_timeline.specs.declared.chart.Fate.TheVariants.{Runs, Committed, Squashed, Dropped}
 use Rattle.hx_timeline.specs.declared.chart.Attempt.{Attempt}
 use Rattle.hx_timeline.specs.declared.chart.Link.{Link}
-use Rattle.hx_timeline.specs.Chart.{attempts_of, violations_of, forwards_of}
+use Rattle.hx_timeline.specs.Chart.{lane_count, attempts_of, violations_of, forwards_of}
 use Rattle.hx_timeline.specs.Columns.{label_of}
 
 -- a size, as far as 64 bits count
@@ -24,6 +24,9 @@ middle_of row = pixels (53 + 26 * row)
 
 abbrev pub size_of : List ℕ → ℕ → List ℕ
 size_of name n = codes " " ++ name ++ codes "=\"" ++ decimal n ++ codes "\""
+
+abbrev pub head_of : ℕ → List ℕ
+head_of worker = codes "<text font-weight=\"bold\" text-anchor=\"middle\"" ++ size_of (codes "x") (left_of worker + 106) ++ size_of (codes "y") 24 ++ codes ">worker " ++ decimal worker ++ codes "</text>\n"
 
 -- how the box of an attempt is drawn
 abbrev pub style_of : Fate → List ℕ
@@ -71,7 +74,11 @@ event_of names printed row e = let y = pixels (middle_of row + 4) in number_of r
 abbrev pub events_from : List Called → List ℕ → ℕ → List Event → List ℕ
 events_from names printed row events = flat_map (λ p. event_of names printed p.0 p.1) (enumerate_from row events)
 
--- on some ground: the boxes of the attempts, the lines of the violations, the arrows of forwarded values, and what was done, each in their order
+-- a head for each lane, the boxes of the attempts, the lines of the violations, the arrows of forwarded values, and what was done
+abbrev pub drawn : List Called → List ℕ → List Event → List ℕ
+drawn names printed events = flat_map head_of (range_with_len 0 (lane_count events)) ++ flat_map box_of (attempts_of events) ++ flat_map violation_of (violations_of events) ++ flat_map arrow_of (forwards_of events) ++ events_from names printed 0 events
+
+-- THE picture of a replay that is told, on some ground
 pub record IsPicture (names : List Called) (t : Told) (svg : List ℕ) : Type 0 where
   pub ground : List ℕ
-  pub layers : svg ≡ codes "<svg xmlns=\"http://www.w3.org/2000/svg\"" ++ ground ++ flat_map box_of (attempts_of t.events.items) ++ flat_map violation_of (violations_of t.events.items) ++ flat_map arrow_of (forwards_of t.events.items) ++ events_from names t.trace.text.items 0 t.events.items ++ codes "</svg>\n"
+  pub layers : svg ≡ codes "<svg xmlns=\"http://www.w3.org/2000/svg\"" ++ ground ++ drawn names t.trace.text.items t.events.items ++ codes "</svg>\n"

@@ -1,7 +1,8 @@
 // A timeline as SVG.
 
 ghost use Rattle.std.specs.Prelude.{◌≡◌, ◌++◌, ◌-◌, ◌^◌, ◌<◌, flat_map, IfOk, OnOk};
-ghost use Rattle.hx_timeline.specs.Drawing.{left_of, middle_of, size_of, style_of, rectangle, box_of, side_from, side_to, line_of, arrow_of, violation_of, number_of, words_of, event_of, events_from, IsPicture};
+ghost use Rattle.std.specs.List.{range_with_len};
+ghost use Rattle.hx_timeline.specs.Drawing.{left_of, middle_of, size_of, head_of, style_of, rectangle, box_of, side_from, side_to, line_of, arrow_of, violation_of, number_of, words_of, event_of, events_from, IsPicture};
 ghost use Rattle.hx_timeline.specs.Columns.{label_of};
 
 use crate::chart::{Attempt, Chart, Fate, Link, chart_of};
@@ -35,6 +36,7 @@ pub fn picture(alloc: Global, names: &[Called], told: &Told) -> Result<Vec<u8>, 
     let mut svg = Vec::new(alloc);
     svg.extend_from_slice(b"<svg xmlns=\"http://www.w3.org/2000/svg\"")?;
     svg.extend_from_slice(&ground)?;
+    put_heads(&mut svg, chart.lanes)?;
     put_boxes(&mut svg, &chart.attempts)?;
     put_violations(&mut svg, &chart.violations)?;
     put_forwards(&mut svg, &chart.forwards)?;
@@ -43,14 +45,38 @@ pub fn picture(alloc: Global, names: &[Called], told: &Told) -> Result<Vec<u8>, 
     Ok(svg)
 }
 
-// The rest of the opening, the ground, and the heads of the lanes.
+// The rest of the opening, the patterns, and a white ground.
 fn ground_of(alloc: Global, chart: &Chart) -> Result<Vec<u8>, AllocError> {
     let mut svg = Vec::new(alloc);
-    put_ground(&mut svg, chart)?;
-    for worker in 0..chart.lanes {
-        put_head(&mut svg, worker)?;
-    }
+    let width = left_of(chart.lanes).saturating_add(INSET);
+    let height = middle_of(chart.rows).saturating_add(INSET);
+    put_size(&mut svg, b"width", width)?;
+    put_size(&mut svg, b"height", height)?;
+    svg.extend_from_slice(b" font-family=\"sans-serif\" font-size=\"13\">\n")?;
+    svg.extend_from_slice(
+        b"<defs>\n\
+<pattern id=\"squashed\" width=\"7\" height=\"7\" patternUnits=\"userSpaceOnUse\">\
+<path d=\"M0 7L7 0\" stroke=\"#999\" stroke-width=\"1\"/></pattern>\n\
+<pattern id=\"dropped\" width=\"6\" height=\"6\" patternUnits=\"userSpaceOnUse\">\
+<circle cx=\"3\" cy=\"3\" r=\"1\" fill=\"#999\"/></pattern>\n\
+<marker id=\"tip\" markerWidth=\"9\" markerHeight=\"8\" refX=\"8\" refY=\"4\" orient=\"auto\">\
+<path d=\"M0 0L9 4L0 8z\"/></marker>\n\
+</defs>\n",
+    )?;
+    svg.extend_from_slice(b"<rect fill=\"white\"")?;
+    put_size(&mut svg, b"width", width)?;
+    put_size(&mut svg, b"height", height)?;
+    svg.extend_from_slice(b"/>\n")?;
     Ok(svg)
+}
+
+fn put_heads(svg: &mut Vec<u8>, lanes: u32) -> Result<(), AllocError>
+    ensures { OnOk result (svg.new.items ≡ svg.old.items ++ flat_map head_of (range_with_len 0 lanes)) }
+{
+    for worker in 0..lanes {
+        put_head(svg, worker)?;
+    }
+    Ok(())
 }
 
 fn put_boxes(svg: &mut Vec<u8>, attempts: &[Attempt]) -> Result<(), AllocError>
@@ -120,30 +146,9 @@ fn put_size(svg: &mut Vec<u8>, name: &[u8], value: u64) -> Result<(), AllocError
     svg.extend_from_slice(b"\"")
 }
 
-// The rest of the opening, the patterns, and a white ground.
-fn put_ground(svg: &mut Vec<u8>, chart: &Chart) -> Result<(), AllocError> {
-    let width = left_of(chart.lanes).saturating_add(INSET);
-    let height = middle_of(chart.rows).saturating_add(INSET);
-    put_size(svg, b"width", width)?;
-    put_size(svg, b"height", height)?;
-    svg.extend_from_slice(b" font-family=\"sans-serif\" font-size=\"13\">\n")?;
-    svg.extend_from_slice(
-        b"<defs>\n\
-<pattern id=\"squashed\" width=\"7\" height=\"7\" patternUnits=\"userSpaceOnUse\">\
-<path d=\"M0 7L7 0\" stroke=\"#999\" stroke-width=\"1\"/></pattern>\n\
-<pattern id=\"dropped\" width=\"6\" height=\"6\" patternUnits=\"userSpaceOnUse\">\
-<circle cx=\"3\" cy=\"3\" r=\"1\" fill=\"#999\"/></pattern>\n\
-<marker id=\"tip\" markerWidth=\"9\" markerHeight=\"8\" refX=\"8\" refY=\"4\" orient=\"auto\">\
-<path d=\"M0 0L9 4L0 8z\"/></marker>\n\
-</defs>\n",
-    )?;
-    svg.extend_from_slice(b"<rect fill=\"white\"")?;
-    put_size(svg, b"width", width)?;
-    put_size(svg, b"height", height)?;
-    svg.extend_from_slice(b"/>\n")
-}
-
-fn put_head(svg: &mut Vec<u8>, worker: u32) -> Result<(), AllocError> {
+fn put_head(svg: &mut Vec<u8>, worker: u32) -> Result<(), AllocError>
+    ensures { OnOk result (svg.new.items ≡ svg.old.items ++ head_of worker) }
+{
     svg.extend_from_slice(b"<text font-weight=\"bold\" text-anchor=\"middle\"")?;
     put_size(svg, b"x", left_of(worker).saturating_add(INSET + BOX / 2))?;
     put_size(svg, b"y", TOP - 16)?;
