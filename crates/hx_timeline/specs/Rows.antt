@@ -11,6 +11,7 @@ use Rattle.hx_timeline.specs.declared.chart.Fate.TheVariants.{Runs, Committed, S
 use Rattle.hx_timeline.specs.declared.chart.Attempt.{Attempt}
 use Rattle.hx_timeline.specs.Chart.{attempts_of, violations_of, forwards_of}
 use Rattle.hx_timeline.specs.Columns.{table_of}
+use Rattle.hx_timeline.specs.Drawing.{box_of, arrow_of}
 
 abbrev told : (worker iteration attempt : ℕ) → Deed → Event
 told w j k deed = record { worker = w; iteration = j; attempt = k; deed = deed }
@@ -92,3 +93,12 @@ waiting_table : table_of [] [] waiting
     ++ codes "8     refused                     |\n"
 unfolding digits
 waiting_table = refl
+
+-- a box over four rows of the second lane, and an arrow from the first lane to the third
+squashed_box : box_of (tried 1 1 1 1 4 Squashed) ≡ codes "<rect rx=\"3\" x=\"272\" y=\"68\" width=\"188\" height=\"100\" fill=\"url(#squashed)\" stroke=\"black\" stroke-width=\"1.5\" stroke-dasharray=\"6 4\"/>\n"
+unfolding digits
+squashed_box = refl
+
+forwarding_arrow : arrow_of (record { from = 0; from_row = 2; to = 2; to_row = 5 }) ≡ codes "<line stroke=\"black\" x1=\"248\" y1=\"105\" x2=\"484\" y2=\"183\" stroke-width=\"1.5\" marker-end=\"url(#tip)\"/>\n"
+unfolding digits
+forwarding_arrow = refl
