@@ -78,7 +78,7 @@ events_from names printed row events = flat_map (λ p. event_of names printed p.
 abbrev pub drawn : List Called → List ℕ → List Event → List ℕ
 drawn names printed events = flat_map head_of (range_with_len 0 (lane_count events)) ++ flat_map box_of (attempts_of events) ++ flat_map violation_of (violations_of events) ++ flat_map arrow_of (forwards_of events) ++ events_from names printed 0 events
 
--- THE picture of a replay that is told, on some ground
+-- THE picture of a replay that is told, on some sheet
 pub record IsPicture (names : List Called) (t : Told) (svg : List ℕ) : Type 0 where
-  pub ground : List ℕ
-  pub layers : svg ≡ codes "<svg xmlns=\"http://www.w3.org/2000/svg\"" ++ ground ++ drawn names t.trace.text.items t.events.items ++ codes "</svg>\n"
+  pub sheet : List ℕ
+  pub layers : svg ≡ codes "<svg xmlns=\"http://www.w3.org/2000/svg\"" ++ sheet ++ drawn names t.trace.text.items t.events.items ++ codes "</svg>\n"

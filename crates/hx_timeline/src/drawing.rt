@@ -32,10 +32,10 @@ pub fn picture(alloc: Global, names: &[Called], told: &Told) -> Result<Vec<u8>, 
     ensures { IfOk result (λ svg. IsPicture names.now told.now svg.items) }
 {
     let chart = chart_of(alloc, &told.events)?;
-    let ground = ground_of(alloc, &chart)?;
+    let sheet = sheet_of(alloc, &chart)?;
     let mut svg = Vec::new(alloc);
     svg.extend_from_slice(b"<svg xmlns=\"http://www.w3.org/2000/svg\"")?;
-    svg.extend_from_slice(&ground)?;
+    svg.extend_from_slice(&sheet)?;
     put_heads(&mut svg, chart.lanes)?;
     put_boxes(&mut svg, &chart.attempts)?;
     put_violations(&mut svg, &chart.violations)?;
@@ -45,8 +45,8 @@ pub fn picture(alloc: Global, names: &[Called], told: &Told) -> Result<Vec<u8>, 
     Ok(svg)
 }
 
-// The rest of the opening, the patterns, and a white ground.
-fn ground_of(alloc: Global, chart: &Chart) -> Result<Vec<u8>, AllocError> {
+// The rest of the opening, the patterns, and a white sheet.
+fn sheet_of(alloc: Global, chart: &Chart) -> Result<Vec<u8>, AllocError> {
     let mut svg = Vec::new(alloc);
     let width = left_of(chart.lanes).saturating_add(INSET);
     let height = middle_of(chart.rows).saturating_add(INSET);

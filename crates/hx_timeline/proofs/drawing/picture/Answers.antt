@@ -22,11 +22,11 @@ returns c =
     let lines = c.in_ok-put_violations.ensures ∙ ap (λ xs. c.put_boxes.new.svg.items ++ flat_map violation_of xs) violations in
     let arrows = c.in_ok-put_forwards.ensures ∙ ap (λ xs. c.put_violations.new.svg.items ++ flat_map arrow_of xs) forwards in
     let words = c.in_ok-put_events.ensures ∙ ap (λ t. c.put_forwards.new.svg.items ++ events_from names t 0 c.deref-7.result.now) c.deref-6.ensures.value ∙ ap (λ es. c.put_forwards.new.svg.items ++ events_from names told.trace.text.items 0 es) c.deref-7.ensures.value in
-    let upto_ground = then_put [] _ _ _ _ opening c.in_ok-extend_from_slice-2.ensures.items in
-    let ground = c.extend_from_slice-2.new.self.items in
-    let upto_boxes = then_put ground _ _ _ _ heads boxes in
-    let upto_lines = then_put ground _ _ _ _ upto_boxes lines in
-    let upto_arrows = then_put ground _ _ _ _ upto_lines arrows in
-    let upto_words = then_put ground _ _ _ _ upto_arrows words in
-    let all = then_put [] _ _ _ _ upto_ground upto_words in
-    record { ground = c.deref-2.result.now; layers = then_put [] _ _ _ _ all c.in_ok-extend_from_slice-3.ensures.items }
+    let upto_sheet = then_put [] _ _ _ _ opening c.in_ok-extend_from_slice-2.ensures.items in
+    let sheet = c.extend_from_slice-2.new.self.items in
+    let upto_boxes = then_put sheet _ _ _ _ heads boxes in
+    let upto_lines = then_put sheet _ _ _ _ upto_boxes lines in
+    let upto_arrows = then_put sheet _ _ _ _ upto_lines arrows in
+    let upto_words = then_put sheet _ _ _ _ upto_arrows words in
+    let all = then_put [] _ _ _ _ upto_sheet upto_words in
+    record { sheet = c.deref-2.result.now; layers = then_put [] _ _ _ _ all c.in_ok-extend_from_slice-3.ensures.items }
