@@ -29,9 +29,11 @@ runs _ = false
 abbrev pub is_among : Attempt → ℕ → ℕ → Bool
 is_among x n last = runs x.fate && nat_le x.iteration last && nat_lt (last - x.iteration) n
 
+-- the fate of an attempt, where this becomes of those at the last n iterations up to this
 abbrev pub fate_among : Attempt → ℕ → ℕ → Fate → Fate
 fate_among x n last f = if is_among x n last then f else x.fate
 
+-- and where it becomes of worker w's
 abbrev pub fate_of_worker : Attempt → ℕ → Fate → Fate
 fate_of_worker x w f = if x.worker == w then f else x.fate
 
@@ -49,6 +51,7 @@ fate_by x w _ = x.fate
 abbrev pub behind : ℕ → Event → Attempt → Attempt
 behind row e x = if runs x.fate then record x { last = row; fate = fate_by x e.worker e.deed } else x
 
+-- the attempt that an event starts
 abbrev pub started : ℕ → Event → Deed → List Attempt
 started row e Starts = record { worker = e.worker; iteration = e.iteration; attempt = e.attempt; first = row; last = row; fate = Runs } ∷ []
 started row e _ = []
@@ -57,7 +60,7 @@ started row e _ = []
 abbrev pub attempts_behind : ℕ → Event → List Attempt → List Attempt
 attempts_behind row e xs = map (behind row e) xs ++ started row e e.deed
 
--- and behind those of this row and the next ones
+-- and behind all events from a row on
 abbrev pub attempts_after : ℕ → List Event → List Attempt → List Attempt
 attempts_after row [] xs = xs
 attempts_after row (e ∷ es) xs = attempts_after (row + 1) es (attempts_behind row e xs)
@@ -96,7 +99,7 @@ abbrev pub arrow : ℕ → ℕ → Option (ℕ × ℕ) → List Link
 arrow row w None = []
 arrow row w (Some p) = record { from = p.1; from_row = p.0; to = w; to_row = row } ∷ []
 
--- behind the events before
+-- the arrow of a load by worker w, behind these events
 abbrev pub forwards_at : ℕ → ℕ → List Event → Deed → List Link
 forwards_at row w before (Loads a v (Iteration j)) = arrow row w (last_store a j 0 before None)
 forwards_at row w before _ = []

@@ -55,9 +55,11 @@ origin_label _ = []
 
 -- ---- marks
 
+-- an attempt of worker w goes on in a row, or ends there
 abbrev pub is_on : Attempt → ℕ → ℕ → Bool
 is_on x row w = x.worker == w && nat_le x.first row && nat_le row x.last
 
+-- it ends there
 abbrev pub is_over : Attempt → ℕ → Bool
 is_over x row = x.last == row && not (runs x.fate)
 
@@ -69,6 +71,7 @@ abbrev pub mark_at : ℕ → ℕ → List Attempt → List ℕ
 mark_at row w [] = []
 mark_at row w (x ∷ xs) = if is_on x row w then mark_of x row else mark_at row w xs
 
+-- in the lane of worker w
 abbrev pub lane_words : List Called → List ℕ → List Attempt → ℕ → Event → ℕ → List ℕ
 lane_words names printed attempts row e w = if w == e.worker then label_of names printed e e.deed ++ origin_label e.deed else mark_at row w attempts
 
@@ -83,11 +86,12 @@ blanks_ahead n (b ∷ bs) = replicate n 32 ++ b ∷ bs
 abbrev pub cell_ahead : ℕ → List ℕ → List ℕ → List ℕ
 cell_ahead width cell rest = cell ++ blanks_ahead (max (width - length cell) 1) rest
 
--- a lane for each of the workers from w on, so many
+-- a lane for each of these workers
 abbrev pub lanes_from : (ℕ → List ℕ) → List ℕ → List ℕ
 lanes_from words [] = []
 lanes_from words (w ∷ ws) = cell_ahead 28 (words w) (lanes_from words ws)
 
+-- the number of a row, and a lane for each of the first n workers
 abbrev pub line_of : List ℕ → ℕ → (ℕ → List ℕ) → List ℕ
 line_of number n words = cell_ahead 6 number (lanes_from words (range_with_len 0 n)) ++ 10 ∷ []
 
