@@ -1,0 +1,5 @@
+use Rattle.std.proofs.Common.{◌≡◌, ◌++◌, replicate}
+use Rattle.hx_timeline.proofs.columns.put_blanks.Given as goal
+
+abbrev pub invariant-loop-blank : goal.invariant-loop-blank
+invariant-loop-blank l = l.text.items ≡ l.initial.text.items ++ replicate l._blank 32

@@ -1,0 +1,15 @@
+use Rattle.std.proofs.Common.{◌++◌, ◌+◌, ◌≡◌, ap, ◌∙◌, arith}
+use Rattle.std.specs.Prelude.{decimal}
+use Rattle.hx_timeline.proofs.Texts.{then_put, last_put}
+use Rattle.hx_timeline.proofs.drawing.put_row_number.Goals as goal
+
+pub returns : goal.returns
+returns c fits =
+    let svg = c.args.svg.now.items in
+    let row : c.saturating_add.result ≡ c.args.row + 1 = omega arith in
+    let number = c.in_ok-put_number.ensures ∙ ap (λ n. c.extend_from_slice-2.new.self.items ++ decimal n) row in
+    let upto_x = then_put svg _ _ _ _ c.in_ok-extend_from_slice.ensures.items c.in_ok-put_size.ensures in
+    let upto_y = then_put svg _ _ _ _ upto_x c.in_ok-put_size-2.ensures in
+    let upto_edge = then_put svg _ _ _ _ upto_y c.in_ok-extend_from_slice-2.ensures.items in
+    let upto_number = then_put svg _ _ _ _ upto_edge number in
+    last_put c.extend_from_slice-3.result svg c.put_number.new.text.items c.extend_from_slice-3.new.self.items _ _ upto_number c.extend_from_slice-3.ensures.items

@@ -1,0 +1,17 @@
+use Rattle.std.proofs.Common.{◌++◌, ◌+◌, ◌≡◌, ap, ◌∙◌, arith}
+use Rattle.std.specs.Prelude.{codes}
+use Rattle.hx_timeline.specs.Columns.{label_of}
+use Rattle.hx_timeline.specs.Drawing.{left_of, size_of}
+use Rattle.hx_timeline.proofs.Texts.{then_put, last_put}
+use Rattle.hx_timeline.proofs.drawing.put_words.Goals as goal
+
+pub returns : goal.returns
+returns c =
+    let svg = c.args.svg.now.items in
+    let middle : c.saturating_add-x.result ≡ left_of c.args.event.worker + 106 = omega arith in
+    let x = c.in_ok-put_size.ensures ∙ ap (λ n. c.extend_from_slice.new.self.items ++ size_of (codes "x") n) middle in
+    let upto_x = then_put svg _ _ _ _ c.in_ok-extend_from_slice.ensures.items x in
+    let upto_y = then_put svg _ _ _ _ upto_x c.in_ok-put_size-2.ensures in
+    let upto_edge = then_put svg _ _ _ _ upto_y c.in_ok-extend_from_slice-2.ensures.items in
+    let upto_label = then_put svg _ _ _ (label_of c.args.names.now c.args.printed.now c.args.event c.args.event.deed) upto_edge c.in_ok-put_label.ensures in
+    last_put c.extend_from_slice-3.result svg c.put_label.new.text.items c.extend_from_slice-3.new.self.items _ _ upto_label c.extend_from_slice-3.ensures.items

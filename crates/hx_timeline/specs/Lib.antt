@@ -1,0 +1,4 @@
+pub mod Chart
+pub mod Columns
+pub mod Drawing
+pub mod Rows
