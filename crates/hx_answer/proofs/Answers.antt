@@ -88,7 +88,7 @@ replay_fails_no_device bytes input asked (no_trace.Schedule schedule.Memory) h =
 
 -- a replay that is shown
 pub replay_shown : (input : List ℤ) (asked : Schedule) (source rest old new : Option (List ℕ)) (bytes text : List ℕ) (r : Replayed) (s : Status) → IsReadOf source rest bytes
-    → IsReplayOf bytes input asked r.told → IsShown asked.shown r text → ShowsText text old new s → ReplayAnswer input asked source rest old new s
+    → IsReplayOf bytes input asked r → IsShown asked.shown r text → ShowsText text old new s → ReplayAnswer input asked source rest old new s
 replay_shown input asked source rest old new bytes text r status.Done is h of shown = record { bytes = bytes; is_read = is; says = (r, h, text, of, shown) }
 replay_shown input asked source rest old new bytes text r status.Device is h of shown = tt
 replay_shown input asked source rest old new bytes text r status.Fault is h of shown = absurd shown

@@ -6,6 +6,8 @@ use Rattle.hx_code.specs.Code.{CodeView}
 use Rattle.hx_lower.specs.Listing.{listing_of as words_of}
 use Rattle.hx_trace.specs.Text.{listing_of as trace_text}
 use Rattle.hx_trace.specs.Telling.{told_listing}
+use Rattle.hx_timeline.specs.Columns.{timeline_table}
+use Rattle.hx_timeline.specs.Drawing.{IsPicture}
 use Rattle.hx_run.specs.declared.executing.Mode.{Mode}
 use Rattle.hx_run.specs.declared.executing.Done.{Done}
 use Rattle.hx_run.specs.declared.refusal.Refusal.{Refusal}
@@ -80,16 +82,16 @@ WordsAnswer = CodeAnswer words_of
 abbrev pub RefusesAsked : List ℤ → Schedule → Option (List ℕ) → Option (List ℕ) → Type 0
 RefusesAsked input asked source rest = (AreInRange asked.settings → ⊥) ⊎ OfRead source rest (λ bytes. IsRefused status_of_no_trace (RefusesReplay bytes input asked))
 
--- the text that is shown of a replay; of a timeline nothing is said
+-- the text that is shown of a replay
 abbrev pub IsShown : Shown → Replayed → List ℕ → Type 0
 IsShown shown.Trace r text = text ≡ trace_text r.told.trace
 IsShown shown.Events r text = text ≡ told_listing r.names.items r.told
-IsShown shown.Picture r text = Unit {0}
-IsShown shown.Table r text = Unit {0}
+IsShown shown.Picture r text = IsPicture r.names.items r.told text
+IsShown shown.Table r text = text ≡ timeline_table r.names.items r.told
 
 -- the command `replay`
 abbrev pub ReplayAnswer : List ℤ → Schedule → Option (List ℕ) → Option (List ℕ) → Option (List ℕ) → Option (List ℕ) → Status → Type 0
-ReplayAnswer input asked source rest old new status.Done = OfRead source rest (λ bytes. (r : Replayed) × IsReplayOf bytes input asked r.told × (text : List ℕ) × IsShown asked.shown r text × Appends old new text)
+ReplayAnswer input asked source rest old new status.Done = OfRead source rest (λ bytes. (r : Replayed) × IsReplayOf bytes input asked r × (text : List ℕ) × IsShown asked.shown r text × Appends old new text)
 ReplayAnswer input asked source rest old new status.Refused = RefusesAsked input asked source rest × (new ≡ old)
 ReplayAnswer input asked source rest old new status.Memory = new ≡ old
 ReplayAnswer input asked source rest old new status.Device = Unit {0}

@@ -1,6 +1,7 @@
 -- What a schedule is replayed on, and what comes of it.
 use Rattle.std.specs.Prelude.{◌≡◌, ◌⊎◌, ℕ, ◌-◌, ◌<◌, ◌≤◌, ℤ, List, All, map, nat_lt, if◌then◌else◌}
 use Rattle.hx_tree.specs.declared.outcome.Settings.{Settings}
+use Rattle.hx_tree.specs.Tree.{Program}
 use Rattle.hx_code.specs.Code.{CodeView}
 use Rattle.hx_code.specs.Machine.{opening_machine, InputFits}
 use Rattle.hx_word.specs.declared.entry.Entry.{Entry}
@@ -10,13 +11,17 @@ use Rattle.hx_word.specs.Ran.{ReachedFrom}
 use Rattle.hx_frame.specs.declared.frame.Capacities.{Capacities}
 use Rattle.hx_run.specs.Headline.{IsCodeOf, RefusesRun}
 use Rattle.hx_run.specs.Runs.{RefusesInput}
+use Rattle.hx_run.specs.Sources.{IsSpelledAlone}
+use Rattle.hx_trace.specs.declared.telling.Called.{Called}
 use Rattle.hx_trace.specs.declared.trace.Told.{Told}
 use Rattle.hx_trace.specs.declared.trace.TraceError.{TraceError}
 use Rattle.hx_trace.specs.declared.trace.TraceError.TheVariants as schedule
 use Rattle.hx_trace.specs.Trace.{board_after, events_from, IsTraceOf, ShowsPlain}
+use Rattle.hx_names.specs.Names.{named, names}
 use Rattle.hx_answer.specs.declared.replaying.NoTrace.{NoTrace}
 use Rattle.hx_answer.specs.declared.replaying.NoTrace.TheVariants as no_trace
 use Rattle.hx_answer.specs.declared.replaying.Schedule.{Schedule}
+use Rattle.hx_answer.specs.declared.replaying.Replayed.{Replayed}
 
 -- ---- digits
 
@@ -60,14 +65,22 @@ pub record IsFrom (code : CodeView) (region : ℕ) (entry : Entry) (settings : S
   pub plain : ShowsPlain code region entry t.trace
   pub events : t.events.items ≡ events_from code region entry settings.workers (rooms settings) (map digit digits)
 
--- a trace is that of the schedule, from the entry of the n-th region of a run of the source on the input, and so are the events
-pub record IsReplayOf (source : List ℕ) (input : List ℤ) (asked : Schedule) (t : Told) : Type 0 where
+-- so are the words of a region called, by the one program that the source spells
+pub record AreNamesOf (source : List ℕ) (code : CodeView) (region : ℕ) (called : List Called) : Type 0 where
+  pub program : Program
+  pub spelled : IsSpelledAlone source program
+  pub named : map named called ≡ names program code region
+
+-- a trace is that of the schedule, from the entry of the n-th region of a run of the source on the input, and so are the events; and the names
+-- are those of that region
+pub record IsReplayOf (source : List ℕ) (input : List ℤ) (asked : Schedule) (r : Replayed) : Type 0 where
   pub code : CodeView
   pub is_code : IsCodeOf source code
   pub region : ℕ
   pub entry : Entry
   pub reaches : Reaches code input asked.nth asked.steps (reached.At region entry)
-  pub is_from : IsFrom code region entry asked.settings asked.digits.now t
+  pub is_from : IsFrom code region entry asked.settings asked.digits.now r.told
+  pub names : AreNamesOf source code region r.names.items
 
 -- code of the source has this entry of its run refused
 pub record RefusesEntryOf (source : List ℕ) (input : List ℤ) (n steps : ℕ) (e : NoTrace) : Type 0 where

@@ -2,7 +2,7 @@
 
 ghost use Rattle.std.specs.Prelude.{◌≡◌, ◌↔◌, All, map, IfOk, IfErr, IsTrue};
 ghost use Rattle.hx_word.specs.Entry.{EntryFits};
-ghost use Rattle.hx_answer.specs.Replays.{digit, IsFrom, IsReplayOf, IsWorker, Reaches, RefusesEntry, RefusesReplay, RefusesWorkers};
+ghost use Rattle.hx_answer.specs.Replays.{digit, AreNamesOf, IsFrom, IsReplayOf, IsWorker, Reaches, RefusesEntry, RefusesReplay, RefusesWorkers};
 ghost use Rattle.hx_answer.specs.declared.replaying.NoTrace.TheVariants as no_trace;
 ghost use Rattle.hx_word.specs.declared.plain.Reached.TheVariants as reached;
 
@@ -159,7 +159,7 @@ pub fn replay_of(
     input: &[i32],
     asked: &Schedule<'_>,
 ) -> Result<Replayed, NoTrace>
-    ensures told { IfOk result (λ r. IsReplayOf source.now input.now asked.now r.told) }
+    ensures told { IfOk result (IsReplayOf source.now input.now asked.now) }
     ensures refused { IfErr result (RefusesReplay source.now input.now asked.now) }
 {
     let code = executable_of(alloc, source)?;
@@ -177,7 +177,9 @@ fn names_in(
     source: &[u8],
     code: &Executable,
     region: u32,
-) -> Result<Vec<Called>, AllocError> {
+) -> Result<Vec<Called>, AllocError>
+    ensures { IfOk result (λ v. AreNamesOf source.now code.now region v.items) }
+{
     let Ok(program) = parse_source(alloc, source) else {
         return Err(AllocError);
     };

@@ -1,12 +1,12 @@
 use Rattle.std.proofs.Common.{subst}
-use Rattle.hx_answer.specs.Answers.{IsShown, ShowsText}
+use Rattle.hx_answer.specs.Answers.{ShowsText}
 use Rattle.hx_answer.specs.Replays.{IsReplayOf}
 use Rattle.hx_answer.proofs.Answers.{replay_shown}
 use Rattle.hx_answer.proofs.answer.answer_replay.Goals as goal
 
 pub returns-in-Ok-shown_of-clause-answer : goal.returns-in-Ok-shown_of-clause-answer
 returns-in-Ok-shown_of-clause-answer g c =
-    let told = subst (λ bytes. IsReplayOf bytes c.args.input.now c.args.asked.now c.in-Ok-replay_of.replayed.told) c.as_slice.ensures.value c.in-Ok-replay_of.ensures.told in
+    let told = subst (λ bytes. IsReplayOf bytes c.args.input.now c.args.asked.now c.in-Ok-replay_of.replayed) c.as_slice.ensures.value c.in-Ok-replay_of.ensures.told in
     let old = g.K.ByteSink.written c.args.out.now in
     let new = g.K.ByteSink.written c.show_text.new.out in
     let shown = subst (λ text. ShowsText text old new c.show_text.result) c.as_slice-in-Ok-shown_of.ensures.value c.show_text.ensures.shown in
