@@ -1,24 +1,22 @@
 // Inputs and settings that don't fit.
 
 ghost use Rattle.std.specs.Prelude.{◌≡◌, ◌↔◌, ◌<◌, ◌≤◌, All, IfOk, IsTrue, MatchOption, OnOk, length};
-ghost use Rattle.std.specs.Fmt.{signed_decimal};
-ghost use Rattle.std.specs.List.{prefix_len};
 ghost use Rattle.hx_tree.specs.Tree.{Program};
 ghost use Rattle.hx_tree.specs.Grammar.{Spells};
-ghost use Rattle.hx_input.specs.InputText.{is_in_word, words_of};
+ghost use Rattle.hx_input.specs.InputText.{words_of};
 ghost use Rattle.hx_case.specs.Input.{IsFirstBad, IsNumber, IsTextCase, input_case, long_text_case, out_of_range, settings_case};
 ghost use Rattle.hx_case.specs.Names.{input_room};
 
 use crate::limit::input_room;
 use crate::line::first;
 use crate::say::{plural, say};
-use hx_lex::{is_space, tokens};
+use hx_input::{number_of, word_len};
+use hx_lex::tokens;
 use hx_parse::parse;
 use hx_tree::limits::{INPUT_LIMIT, TABLE_LIMIT, WORKER_LIMIT};
 use hx_tree::outcome::Settings;
 use itoa::Buffer;
 use std::alloc::{AllocError, Global};
-use std::str;
 
 // What is said of so many numbers, and of the room for them.
 fn said_of_input(alloc: Global, count: usize, room: Option<u64>) -> Result<Vec<u8>, AllocError>
@@ -65,32 +63,14 @@ pub fn case_of_input(alloc: Global, source: &[u8], count: usize) -> Result<Vec<u
     said_of_input(alloc, count, input_room(&program))
 }
 
-// How many bytes stand before the first blank.
-fn word_len(bytes: &[u8]) -> usize
-    ensures { result ≡ prefix_len is_in_word bytes.now }
-{
-    bytes.iter().take_while(|b| !is_space(**b)).count()
-}
-
-// Whether the word is how the number is printed, with no other zeros or signs.
-fn is_decimal_of(word: &[u8], value: i32) -> bool
-    ensures { IsTrue result ↔ (word.now ≡ signed_decimal value) }
-{
-    let mut buffer = Buffer::new();
-    buffer.format(value).as_bytes() == word
-}
-
 // Whether the word is a number of an input: a decimal of 32 bits without zeros in front.
 fn is_number(word: &[u8]) -> bool
     ensures { IsTrue result ↔ IsNumber word.now }
 {
-    let Ok(text) = str::from_utf8(word) else {
-        return false;
-    };
-    let Ok(value) = text.parse::<i32>() else {
-        return false;
-    };
-    is_decimal_of(word, value)
+    match number_of(word) {
+        Some(_) => true,
+        None => false,
+    }
 }
 
 // The first word that is no number.

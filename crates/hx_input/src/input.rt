@@ -31,8 +31,8 @@ impl<T: Drop> From<AllocFailed<T>> for InputError {
     }
 }
 
-// How many bytes stand before the first white space.
-fn word_len(bytes: &[u8]) -> usize
+/// How many bytes stand before the first white space.
+pub fn word_len(bytes: &[u8]) -> usize
     ensures { result ≡ prefix_len is_in_word bytes.now }
 {
     bytes.iter().take_while(|b| !is_space(**b)).count()
@@ -46,8 +46,9 @@ fn is_decimal_of(word: &[u8], value: i32) -> bool
     buffer.format(value).as_bytes() == word
 }
 
-/// The number whose decimal the word is.
-fn number_of(word: &[u8]) -> Option<i32>
+/// The number of 32 bits whose decimal the word is, without a sign or zeros in front that it doesn't need; none where it is that of no
+/// such number.
+pub fn number_of(word: &[u8]) -> Option<i32>
     ensures some { IfSome result (λ z. (word.now ≡ signed_decimal z) × IsWordNumber z) }
     ensures none { result ≡ None → (z : ℤ) → IsWordNumber z → word.now ≢ signed_decimal z }
 {
