@@ -10,6 +10,8 @@ mod forged;
 #[cfg(test)]
 mod frames;
 #[cfg(test)]
+mod passing;
+#[cfg(test)]
 mod pools;
 #[cfg(test)]
 mod refined;

@@ -141,8 +141,8 @@ fn input_without_its_array_is_refused(rt: HostRuntime) -> Result<(), Fail> {
 // What is told of a run that has ended: its end, its first global, and its regions and turns.
 type Told = (End, Option<i32>, [u64; 2]);
 
-// The end of the region that opened, run by itself.
-fn end_of(alloc: Global, code: &Executable, at: &Open) -> Result<RegionEnd, Fail>
+/// The end of the region that opened, run by itself.
+pub(crate) fn end_of(alloc: Global, code: &Executable, at: &Open) -> Result<RegionEnd, Fail>
     requires { at.now.code ≡ code.now }
     ensures { IfOk result (λ end. EndFits at.now.code at.now.region.opened at.now.outer.text end) }
 {

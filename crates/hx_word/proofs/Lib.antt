@@ -5,6 +5,7 @@ pub mod Asking
 pub mod Behind
 pub mod Inside
 pub mod Advance
+pub mod Through
 pub mod First
 pub mod Entries
 pub mod Alone

@@ -2,18 +2,12 @@
 use Rattle.std.proofs.Common.{◌≡◌, ℕ, ◌<◌, [], length, Some, None}
 use Rattle.std.specs.Prelude.{slice_get}
 use Rattle.std.proofs.lemmas.Option.{slice_get-get_or}
-use Rattle.hx_code.specs.declared.table.Carried.{Carried}
-use Rattle.hx_code.specs.Code.{CodeView, RegionView, region_of}
+use Rattle.hx_code.specs.Code.{CodeView, region_of}
 use Rattle.hx_code.specs.Valid.{IsValid}
 use Rattle.hx_code.specs.Fits.{FitsLocal}
 use Rattle.hx_code.specs.Region.{Opened, opening}
-use Rattle.hx_code.proofs.Rooms.{all_at}
-use Rattle.hx_code.proofs.Regions.{carried_below, opening_fits as begins}
-use Rattle.hx_word.specs.Carry.{AreCarried}
+use Rattle.hx_code.proofs.Regions.{opening_fits as begins}
 use Rattle.hx_word.specs.Running.{IsOpened}
-
-pub are_carried : (code : CodeView) → IsValid code → (r : ℕ) (g : RegionView) → slice_get code.regions r ≡ Some g → AreCarried g.carried
-are_carried code valid r g at = λ i c here. all_at (λ (c : Carried). (c.private < 64) × (c.cell < 64)) g.carried i c (carried_below code valid r g at) here
 
 pub region_there : (code : CodeView) (r : ℕ) → r < length code.regions → slice_get code.regions r ≡ Some (region_of code r)
 region_there code r lt = slice_get-get_or code.regions r (record { start = 0; exit = 0; carried = []; copied = []; induct = None }) lt

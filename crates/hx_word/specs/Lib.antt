@@ -1,5 +1,4 @@
 pub mod Opening
-pub mod Carry
 pub mod Running
 pub mod Plain
 pub mod Ran

@@ -2,12 +2,12 @@
 //! after another.
 #![tactic(auto)]
 
-mod carry;
 pub mod entry;
 mod iterations;
 pub mod laws;
 pub mod opened;
 mod opening;
+mod passing;
 pub mod plain;
 pub mod region_run;
 pub mod room;

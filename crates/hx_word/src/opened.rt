@@ -5,9 +5,8 @@ ghost use Rattle.hx_code.specs.Code.{store_words};
 ghost use Rattle.hx_code.specs.Region.{Opened as Was, words_after};
 ghost use Rattle.hx_word.specs.Opening.{WordsAfter};
 
-use crate::carry::load_cells;
-use hx_code::counter::set_counter;
 use hx_code::word::Exit;
+use hx_exec::carry::settle;
 use hx_exec::executable::Executable;
 use hx_tree::limits::PRIVATE_LIMIT;
 
@@ -54,16 +53,10 @@ pub(crate) fn settle_words(
     requires store { length store.now ≡ store_words code.now }
     ensures { (o : Was) → o.region ≡ region → o.words ≡ words.old → words.new ≡ words_after code.now exit o iteration store.now }
 {
-    code.known();
     match exit {
         Exit::Left => {
-            let left = code.region_at(region);
             let mut counted = [0; PRIVATE_LIMIT];
-            set_counter(left.induct, words, iteration, &mut counted);
-            load_cells(&left.carried, code.globals() as usize, store, words);
-            if let Some(counter) = left.induct {
-                words[counter.private as usize] = counted[counter.private as usize];
-            }
+            settle(code, region, iteration, store, words, &mut counted);
         }
         Exit::Returned(_) => {}
         Exit::Faulted(_) => {}

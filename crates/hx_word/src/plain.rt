@@ -178,7 +178,7 @@ impl<'c> Plain<'c> {
         let Plain { code, mut state } = self;
         let mut left = steps;
         while left > 0 && state.end.is_none() {
-            left -= state.advance(code, left).words;
+            left -= state.sweep(code, left);
         }
         match state.end {
             None => Ran::More(Plain { code, state }),

@@ -9,14 +9,14 @@ use Rattle.hx_word.proofs.plain.Plain.run.Goals.{then-loop-left-test+else-is_non
 pub loop-left-preserved : goal.loop-left-preserved
 loop-left-preserved c =
     let i = c.loop-left.invariant in
-    let e = c.advance-left.ensures in
+    let e = c.sweep-left.ensures in
     let code = c.self.inside.code.now in
     let first = machine_of c.self.inside.state in
     let n = c.args.steps - c.loop-left.left in
-    let all : n + c.advance-left.result.words ≡ c.args.steps - (c.loop-left.left - c.advance-left.result.words) = omega (arith, e.words, i.few) in
+    let all : n + c.sweep-left.result ≡ c.args.steps - (c.loop-left.left - c.sweep-left.result) = omega (arith, e.words, i.few) in
     record {
       few = omega (arith, i.few);
-      ran = subst (λ k. one_store (machine_after code k first) ≡ machine_of c.advance-left.new.self) all (then_ran code n c.advance-left.result.words first (machine_of c.loop-left.state) (machine_of c.advance-left.new.self) i.ran e.ran);
+      ran = subst (λ k. one_store (machine_after code k first) ≡ machine_of c.sweep-left.new.self) all (then_ran code n c.sweep-left.result first (machine_of c.loop-left.state) (machine_of c.sweep-left.new.self) i.ran e.ran);
       well = e.well;
       room = e.room;
     }

@@ -9,11 +9,12 @@ use Rattle.hx_code.specs.Call.{CallView}
 use Rattle.hx_code.specs.Local.{LocalView}
 use Rattle.hx_code.specs.Region.{Opened, RegionState, region_opening, into_cells}
 use Rattle.hx_code.specs.Machine.{Machine, innermost_words, opened_by, opens}
-use Rattle.hx_word.specs.Carry.{AreCarried}
+use Rattle.hx_exec.specs.Carry.{AreCarried}
 use Rattle.hx_word.specs.Running.{running, IsOpened, RunsWell}
 use Rattle.hx_word.specs.Plain.{machine_of, one_store, GoesOn, WaitsFor, StandsWell, RunsInside}
 use Rattle.hx_code.proofs.Regions.{the_region, length-into}
-use Rattle.hx_word.proofs.Regions.{are_carried, opening_fits}
+use Rattle.hx_exec.proofs.Carrying.{are_carried}
+use Rattle.hx_word.proofs.Regions.{opening_fits}
 use Rattle.hx_word.proofs.state.State.open.Goals as goal
 
 some_calls : (code : CodeView) (r : ℕ) (cs : List CallView) → WaitsFor code r cs → (0 < length cs) × (r < length code.regions)
