@@ -2,8 +2,7 @@ use Rattle.std.proofs.Common.{arith, ◌≡◌, ◌+◌, ◌-◌, ◌<◌, ◌�
 use Rattle.std.specs.Vec.{with_items, vec_len}
 use Rattle.std.proofs.lemmas.List.{with_items_is}
 use Rattle.std.proofs.lemmas.Option.{slice_get_within}
-use Rattle.hx_tree.specs.declared.limits.TheConstants.{PRIVATE_LIMIT, TEXT_LIMIT}
-use Rattle.hx_code.specs.declared.table.Carried.{Carried}
+use Rattle.hx_tree.specs.declared.limits.TheConstants.{TEXT_LIMIT}
 use Rattle.hx_code.specs.Code.{CodeView, RegionView, region_of, store_words}
 use Rattle.hx_code.specs.Call.{CallView}
 use Rattle.hx_code.specs.Local.{LocalView}
@@ -15,6 +14,7 @@ use Rattle.hx_word.specs.Plain.{machine_of, one_store, GoesOn, WaitsFor, StandsW
 use Rattle.hx_code.proofs.Regions.{the_region, length-into}
 use Rattle.hx_exec.proofs.Carrying.{are_carried}
 use Rattle.hx_word.proofs.Regions.{opening_fits}
+use Rattle.hx_word.proofs.Through.{same_cells, waits_long}
 use Rattle.hx_word.proofs.state.State.open.Goals as goal
 
 some_calls : (code : CodeView) (r : ℕ) (cs : List CallView) → WaitsFor code r cs → (0 < length cs) × (r < length code.regions)
@@ -34,20 +34,13 @@ store_cells-requires-clause-words c =
 same_opened : (r b n p : ℕ) (w : List ℤ) (l : LocalView) (text : List ℕ) → b ≡ l.below → n ≡ length l.calls → w ≡ innermost_words l.calls → p ≡ length text → ◌≡◌ {A = Opened} (record { region = r; below = b + n - 1; words = w; printed = p }) (opened_by r l text)
 same_opened r b n p w l text eb en ew ep = cc
 
-same_cells : (g h : ℕ) (cs ds : List Carried) (v w s t : List ℤ) → g ≡ h → cs ≡ ds → v ≡ w → s ≡ t → into_cells g cs v s ≡ into_cells h ds w t
-same_cells g h cs ds v w s t eg ec ew es = cc
-
-words_long : (code : CodeView) (r : ℕ) (cs : List CallView) → WaitsFor code r cs → length (innermost_words cs) ≡ PRIVATE_LIMIT
-words_long code r [] h = absurd h
-words_long code r (c ∷ rest) h = h.0.exit.0.privates
-
 pub open-requires : goal.open-requires
 open-requires c =
     let some = some_calls _ _ _ c.requires.waits.calls in
     record {
       region = some.1;
       below = omega (arith, some.0, c.below.ensures, c.calls.ensures.calls, c.requires.waits.deep);
-      words = ap length c.privates_into.ensures ∙ words_long _ _ _ c.requires.waits.calls;
+      words = ap length c.privates_into.ensures ∙ waits_long _ _ _ c.requires.waits.calls;
       printed = omega (arith, c.len-opened.ensures, c.requires.text);
     }
 
@@ -79,7 +72,7 @@ returns-clause-well c =
     let long : length store ≡ store_words code = length-into code.globals carried o.words m.store ∙ omega (arith, c.deref_mut.ensures.len, ap length c.deref_mut.ensures.value, c.requires.store) in
     let some = some_calls _ _ _ c.requires.waits.calls in
     let short : length m.text ≤ TEXT_LIMIT = omega (arith, c.len-opened.ensures, c.requires.text) in
-    let is : IsOpened code o = record { region = some.1; below = omega (arith, some.0, c.requires.waits.deep); words = words_long _ _ _ c.requires.waits.calls; printed = short } in
+    let is : IsOpened code o = record { region = some.1; below = omega (arith, some.0, c.requires.waits.deep); words = waits_long _ _ _ c.requires.waits.calls; printed = short } in
     let runs : RunsWell code (region_opening code o store) = record { opened = is; local = opening_fits code c.known.ensures o is 0; region = refl; store = long; text = omega (arith, short) } in
     let inside : RunsInside code (region_opening code o store) m.local m.text = record { runs = runs; goes = refl; waits = c.requires.waits; printed = refl } in
     let made = one_store (opens code c.args.region m.local m) in
