@@ -2,7 +2,7 @@
 # Counts the instructions of whole programs by `hydra plain` and by Lua 5.4, with valgrind's callgrind, and prints how many times
 # Lua's count ours is. Both must print the same. The counts come out the same each time, whatever else the machine does.
 #
-#   bench/instructions.sh [NAME..]      the programs of these names; all of programs/ and shapes/ if none is named
+#   bench/instructions.sh [NAME..]      the programs of these names; all of programs/, shapes/ and others/ if none is named
 #
 # The proved program is wanted: (cd crates/hydra && rt run -- --help) builds it. HYDRA names another one.
 set -euo pipefail
@@ -28,7 +28,7 @@ wanted() {
 }
 
 printf '%-24s %14s %14s %8s\n' program hydra lua 'to lua'
-for folder in programs shapes; do
+for folder in programs shapes others; do
   ratios=
   for source in "$folder"/*.hc; do
     name=$(basename "$source" .hc)
