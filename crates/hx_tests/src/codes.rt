@@ -626,12 +626,15 @@ fn instructions_of(alloc: Global, source: &[u8]) -> Result<usize, Fail> {
         Err(_) => Err(Fail::from("refused")),
         Ok(code) => {
             let executable = Executable::new(alloc, code)?;
-            let instructions = executable.instructions().iter();
-            Ok(
-                instructions
-                    .filter(|i| !matches!(i, Instruction::Stop))
-                    .count(),
-            )
+            let listing = executable.listing();
+            let mut count = 0;
+            for line in listing.lines {
+                match line.instruction {
+                    Instruction::Stop => {}
+                    _ => count += 1,
+                }
+            }
+            Ok(count)
         }
     }
 }
