@@ -626,15 +626,12 @@ fn instructions_of(alloc: Global, source: &[u8]) -> Result<usize, Fail> {
         Err(_) => Err(Fail::from("refused")),
         Ok(code) => {
             let executable = Executable::new(alloc, code)?;
-            let listing = executable.listing();
-            let mut count = 0;
-            for line in listing.lines {
-                match line.instruction {
-                    Instruction::Stop => {}
-                    _ => count += 1,
-                }
-            }
-            Ok(count)
+            let lines = executable.listing().lines.iter();
+            Ok(
+                lines
+                    .filter(|line| !matches!(line.instruction, Instruction::Stop))
+                    .count(),
+            )
         }
     }
 }
