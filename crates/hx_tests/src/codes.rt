@@ -9,7 +9,7 @@ use hx_code::validate::validate;
 use hx_code::word::{Array, Ask, Output, Word};
 use hx_exec::executable::Executable;
 use hx_exec::local::Local;
-use hx_table::instruction::Instruction;
+use hx_instruction::instruction::Instruction;
 use hx_tree::limits::PRIVATE_LIMIT;
 use hx_tree::outcome::{Fault, FaultKind};
 use hx_tree::token::Pos;
