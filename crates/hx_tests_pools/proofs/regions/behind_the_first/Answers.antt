@@ -1,10 +1,10 @@
 -- The machine at the region has the code that the machine was made of.
 use Rattle.std.proofs.Common.{ap, sym, ◌∙◌}
 use Rattle.hx_word.specs.Plain.{PlainView, one_store}
-use Rattle.hx_tests_boards.proofs.pools.first_ended.Goals as goal
+use Rattle.hx_tests_pools.proofs.regions.behind_the_first.Goals as goal
 
-pub ended-requires : goal.ended-requires
-ended-requires g c =
+pub behind-requires : goal.behind-requires
+behind-requires c =
     let is = ap (λ (p : PlainView). p.machine) c.in-Ok.ensures.opening in
     let one = ap one_store is ∙ sym is in
-    (c.type_bounds.sync-W, (c.in-At.ensures c.in-Ok.plain.machine one).4 ∙ ap (λ (p : PlainView). p.code) c.in-Ok.ensures.opening)
+    (c.in-At.ensures c.in-Ok.plain.machine one).4 ∙ ap (λ (p : PlainView). p.code) c.in-Ok.ensures.opening

@@ -1,7 +1,7 @@
 -- The machine at the region has the code that the machine was made of.
 use Rattle.std.proofs.Common.{ap, sym, ◌∙◌}
 use Rattle.hx_word.specs.Plain.{PlainView, one_store}
-use Rattle.hx_tests_boards.proofs.regions.first_region.Goals as goal
+use Rattle.hx_tests_pools.proofs.regions.first_region.Goals as goal
 
 pub by_itself-requires : goal.by_itself-requires
 by_itself-requires c =

@@ -1,7 +1,7 @@
 -- The machine at the region has the code that the machine was made of.
 use Rattle.std.proofs.Common.{ap, sym, ◌∙◌}
 use Rattle.hx_word.specs.Plain.{PlainView, one_store}
-use Rattle.hx_tests_boards.proofs.fakes.works_to_the_end.Goals as goal
+use Rattle.hx_tests_pools.proofs.fakes.works_to_the_end.Goals as goal
 
 pub works_at-requires : goal.works_at-requires
 works_at-requires g c =

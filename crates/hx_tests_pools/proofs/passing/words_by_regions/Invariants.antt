@@ -2,7 +2,7 @@
 use Rattle.std.proofs.Common.{◌≡◌}
 use Rattle.hx_code.specs.Machine.{Machine}
 use Rattle.hx_word.specs.Plain.{one_store}
-use Rattle.hx_tests_boards.proofs.passing.words_by_regions.Given as goal
+use Rattle.hx_tests_pools.proofs.passing.words_by_regions.Given as goal
 
 abbrev pub invariant-loop : goal.invariant-loop
 invariant-loop l = (l.plain.code ≡ l.code) × (m : Machine) × (one_store m ≡ l.plain.machine)

@@ -3,7 +3,7 @@ use Rattle.std.proofs.Common.{arith, ap, sym, ◌∙◌}
 use Rattle.hx_code.specs.Code.{store_words}
 use Rattle.hx_code.specs.Region.{Opened}
 use Rattle.hx_word.specs.Running.{RunView}
-use Rattle.hx_tests_boards.proofs.regions.end_of.Goals as goal
+use Rattle.hx_tests_pools.proofs.regions.end_of.Goals as goal
 
 pub returns-in-Ok : goal.returns-in-Ok
 returns-in-Ok c =

@@ -8,8 +8,8 @@ use Rattle.hx_code.specs.Machine.{Machine, goes_behind, machine_after, resumed, 
 use Rattle.hx_code.specs.Region.{RegionResult}
 use Rattle.hx_word.specs.Plain.{PlainView, one_store, whole, with_store_of}
 use Rattle.hx_word.specs.Entry.{result_from}
-use Rattle.hx_tests_boards.proofs.passing.words_by_regions.Goals as goal
-use Rattle.hx_tests_boards.proofs.passing.words_by_regions.Goals.{in-More, in-At+in_ok-words_within-in-At+in_ok-end-in-At}
+use Rattle.hx_tests_pools.proofs.passing.words_by_regions.Goals as goal
+use Rattle.hx_tests_pools.proofs.passing.words_by_regions.Goals.{in-More, in-At+in_ok-words_within-in-At+in_ok-end-in-At}
 
 returns_within : (v : ℤ) (cs : List CallView) (m : Machine) → (returns v cs m).within ≡ m.within
 returns_within v [] m = refl

@@ -1,0 +1,11 @@
+//! The tests of marked loops as the plain machine and as workers run them, below whole runs, by public calls.
+#![tactic(auto)]
+
+#[cfg(test)]
+mod fakes;
+#[cfg(test)]
+mod passing;
+#[cfg(test)]
+mod pools;
+#[cfg(test)]
+mod regions;
