@@ -12,6 +12,9 @@ use std::alloc::Global;
 use std::process::Abort;
 use std::test::Fail;
 
+// Counts to two.
+const COUNTS: &[u8] = b"int c; int main(){ pwhile(c<2){ c=c+1; } }";
+
 fn code_of(alloc: Global, source: &[u8]) -> Result<Executable, Fail> {
     match executable_of(alloc, source) {
         Ok(code) => Ok(code),
@@ -64,7 +67,7 @@ fn adds_one(rt: &impl Abort, frame: &mut Frame<'_>) {
 
 #[test]
 fn a_turn_asks_for_one_load_and_one_store(rt: HostRuntime) -> Result<(), Fail> {
-    let code = code_of(rt.alloc(), b"int c; int main(){ pwhile(c<2){ c=c+1; } }")?;
+    let code = code_of(rt.alloc(), COUNTS)?;
     let start = start_of(rt.alloc(), &code)?;
     let room = Capacities {
         marks: 1,
@@ -120,25 +123,46 @@ fn what_waits_goes_on_behind(rt: HostRuntime) -> Result<(), Fail> {
     Ok(())
 }
 
-fn are_one_code(rt: &impl Abort, one: &Executable, other: &Executable, wanted: bool) {
-    assert_eq!(rt; one.is_same(other), wanted);
-}
-
-fn are_one_state(rt: &impl Abort, one: &Local, other: &Local, wanted: bool) {
-    assert_eq!(rt; one.is_same(other), wanted);
+// Whether a source has the same code as another.
+fn is_code_of(
+    rt: &impl Abort,
+    alloc: Global,
+    source: &[u8],
+    code: &Executable,
+    wanted: bool,
+) -> Result<(), Fail> {
+    let other = code_of(alloc, source)?;
+    assert_eq!(rt; code.is_same(&other), wanted);
+    Ok(())
 }
 
 #[test]
-fn codes_and_states_are_compared_by_their_parts(rt: HostRuntime) -> Result<(), Fail> {
-    let code = code_of(rt.alloc(), b"int c; int main(){ pwhile(c<2){ c=c+1; } }")?;
-    let again = code_of(rt.alloc(), b"int c; int main(){ pwhile(c<2){ c=c+1; } }")?;
-    let other = code_of(rt.alloc(), b"int c; int main(){ pwhile(c<3){ c=c+1; } }")?;
-    are_one_code(&rt, &code, &again, true);
-    are_one_code(&rt, &code, &other, false);
-    let start = start_of(rt.alloc(), &code)?;
-    let same = start_of(rt.alloc(), &again)?;
-    let main = Local::new(rt.alloc(), &code)?;
-    are_one_state(&rt, &start, &same, true);
-    are_one_state(&rt, &start, &main, false);
+fn codes_are_compared_by_their_parts(rt: HostRuntime) -> Result<(), Fail> {
+    let code = code_of(rt.alloc(), COUNTS)?;
+    is_code_of(&rt, rt.alloc(), COUNTS, &code, true)?;
+    let other = b"int c; int main(){ pwhile(c<3){ c=c+1; } }";
+    is_code_of(&rt, rt.alloc(), other, &code, false)
+}
+
+// An iteration of the same code, made anew, begins in this state.
+fn begins_so(rt: &impl Abort, alloc: Global, start: &Local) -> Result<(), Fail> {
+    let again = code_of(alloc, COUNTS)?;
+    let same = start_of(alloc, &again)?;
+    assert_eq!(rt; start.is_same(&same), true);
     Ok(())
+}
+
+// A run begins in another.
+fn is_no_run(rt: &impl Abort, alloc: Global, code: &Executable, start: &Local) -> Result<(), Fail> {
+    let main = Local::new(alloc, code)?;
+    assert_eq!(rt; start.is_same(&main), false);
+    Ok(())
+}
+
+#[test]
+fn states_are_compared_by_their_parts(rt: HostRuntime) -> Result<(), Fail> {
+    let code = code_of(rt.alloc(), COUNTS)?;
+    let start = start_of(rt.alloc(), &code)?;
+    begins_so(&rt, rt.alloc(), &start)?;
+    is_no_run(&rt, rt.alloc(), &code, &start)
 }

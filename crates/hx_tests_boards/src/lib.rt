@@ -4,8 +4,6 @@
 #[cfg(test)]
 mod boards;
 #[cfg(test)]
-mod forged;
-#[cfg(test)]
 mod frames;
 #[cfg(test)]
 mod refined;

@@ -1,7 +1,7 @@
 -- The machine at the region has the code that the machine was made of.
 use Rattle.std.proofs.Common.{ap, sym, ◌∙◌}
 use Rattle.hx_word.specs.Plain.{PlainView, one_store}
-use Rattle.hx_tests_boards.proofs.forged.tries_of.Goals as goal
+use Rattle.hx_tests_pools.proofs.forged.tries_of.Goals as goal
 
 pub tries_at-requires : goal.tries_at-requires
 tries_at-requires g c =
