@@ -24,16 +24,19 @@ fn calls_keep_their_arguments(rt: HostRuntime) -> Result<(), Fail> {
     Ok(())
 }
 
+// How many parts the block has that is the only one of some parts.
+fn parts_within(parts: &[Part]) -> usize {
+    match parts.first() {
+        Some(Part::Stmt(Stmt::Block(children))) => children.len(),
+        _ => 0,
+    }
+}
+
 #[test]
 fn blocks_keep_their_parts(rt: HostRuntime) -> Result<(), Fail> {
-    let mut parts = Vec::new(rt.alloc());
-    parts.push(Part::Stmt(Stmt::Empty))?;
-    let made = block(parts);
-    let count = match &made {
-        Stmt::Block(children) => children.len(),
-        _ => 0,
-    };
-    assert_eq!(rt; count, 1);
+    let made = block(vec![in rt.alloc(); Part::Stmt(Stmt::Empty)]?);
+    let parts = vec![in rt.alloc(); Part::Stmt(made)]?;
+    assert_eq!(rt; parts_within(parts.as_slice()), 1);
     Ok(())
 }
 
