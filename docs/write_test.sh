@@ -1,5 +1,5 @@
 #!/usr/bin/env bash
-# Makes a test source of hydra from the list of refusals of LANGUAGE.md, since a test can read no file: the numbers that stand there,
+# Makes a test source of hx_tests_commands from the list of refusals of LANGUAGE.md, since a test can read no file: the numbers that stand there,
 # and the table of sources with their answers.
 #
 #   docs/write_test.sh           writes it
@@ -7,7 +7,7 @@
 set -euo pipefail
 cd "$(dirname "$0")/.."
 
-test=crates/hydra/src/tests/listed.rt
+test=crates/hx_tests_commands/src/listed.rt
 
 # section 14 alone
 section() {

@@ -11,8 +11,6 @@ mod line;
 mod names;
 mod say;
 mod syntax;
-#[cfg(test)]
-mod tests;
 
 pub use case::{case_of_fault, case_of_source};
 pub use input::{case_of_input, case_of_input_text, case_of_settings};

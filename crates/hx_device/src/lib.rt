@@ -6,8 +6,6 @@ mod device;
 mod memory;
 mod reading;
 mod system;
-#[cfg(test)]
-mod tests;
 mod writing;
 
 pub use device::{ByteSink, ByteSource, Failed};

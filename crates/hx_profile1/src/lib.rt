@@ -4,7 +4,5 @@
 
 mod lift;
 pub mod p1;
-#[cfg(test)]
-mod tests;
 
 pub use lift::from_profile1;

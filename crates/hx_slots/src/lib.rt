@@ -6,8 +6,6 @@ mod index;
 mod places;
 pub mod slot;
 pub mod slots;
-#[cfg(test)]
-mod tests;
 
 pub use slot::{Found, Slot};
 pub use slots::{Slots, Written};

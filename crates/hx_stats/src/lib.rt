@@ -4,8 +4,6 @@
 #![tactic(auto)]
 
 mod globals;
-#[cfg(test)]
-mod tests;
 mod text;
 
 pub use globals::put_globals;

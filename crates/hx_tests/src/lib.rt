@@ -8,4 +8,6 @@ mod nodes;
 #[cfg(test)]
 mod parsing;
 #[cfg(test)]
+mod profile1;
+#[cfg(test)]
 mod trees;

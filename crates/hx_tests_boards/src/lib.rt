@@ -10,6 +10,8 @@ mod refined;
 #[cfg(test)]
 mod schedules;
 #[cfg(test)]
+mod slots;
+#[cfg(test)]
 mod tables;
 #[cfg(test)]
 mod texts;

@@ -1,13 +1,7 @@
 //! The program `hydra`: a command line over files and streams.
 #![tactic(auto)]
 
-mod command;
-mod commands;
-mod files;
-mod request;
-#[cfg(test)]
-mod tests;
-
+use hx_command::{command, tell_no_words};
 use std::io;
 use std::process::ExitCode;
 
@@ -20,8 +14,8 @@ fn main(rt: HostRuntime) -> ExitCode {
     let mut err = rt.stderr();
     let words = match words_of(&rt) {
         Ok(words) => words,
-        Err(error) => return ExitCode::from(command::tell_no_words(&error, &mut err)),
+        Err(error) => return ExitCode::from(tell_no_words(&error, &mut err)),
     };
     let mut out = io::writer(&rt);
-    ExitCode::from(command::command(&rt, words.as_slice(), &mut out, &mut err))
+    ExitCode::from(command(&rt, words.as_slice(), &mut out, &mut err))
 }

@@ -1,7 +1,6 @@
 // Cases as they are told, behind the line of their place.
 
-use crate::case::{case_of_fault, case_of_source};
-use crate::input::{case_of_input, case_of_input_text, case_of_settings};
+use hx_case::{case_of_fault, case_of_input, case_of_input_text, case_of_settings, case_of_source};
 use hx_tree::outcome::{Fault, FaultKind, Settings};
 use hx_tree::token::Pos;
 use std::alloc::{AllocError, Global};

@@ -1,8 +1,7 @@
 // Files, inputs and outputs at the edges of what is served.
 
-use crate::command::command;
-use crate::request::{Request, read_words};
-use crate::tests::{SUM, TWO_TURNS, done_by, expect, shows};
+use crate::whole::{SUM, TWO_TURNS, done_by, expect, shows};
+use hx_command::{Request, command, read_words};
 use hx_run::Mode;
 use hx_tree::outcome::Settings;
 use std::alloc::Global;

@@ -174,7 +174,7 @@ fn tell_command_line<W: Write, E: Write>(error: &Error, out: &mut W, err: &mut E
 }
 
 /// Says why there are no words of a command line: 3 where there was no memory for them, and 2 where one of them isn't UTF-8.
-pub(crate) fn tell_no_words<E: Write>(error: &io::Error, err: &mut E) -> u8
+pub fn tell_no_words<E: Write>(error: &io::Error, err: &mut E) -> u8
     ensures { result ≤ 4 }
 {
     if error.kind() == io::ErrorKind::OutOfMemory {
@@ -190,7 +190,7 @@ pub(crate) fn tell_no_words<E: Write>(error: &io::Error, err: &mut E) -> u8
 ///
 /// Printed text, reports, traces, listings and help go to `out`. A fault or a refusal is told on `err` in one line, with its number
 /// and, where it has one, its place.
-pub(crate) fn command<R: Files + AllocGlobal + Threads + Wait + Sync, S: AsStr, W: Write, E: Write>(
+pub fn command<R: Files + AllocGlobal + Threads + Wait + Sync, S: AsStr, W: Write, E: Write>(
     rt: &R,
     words: &[S],
     out: &mut W,

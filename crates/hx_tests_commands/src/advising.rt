@@ -1,6 +1,6 @@
 // Advice on programs whose verdicts were found by hand.
 
-use crate::tests::{done_by, shows};
+use crate::whole::{done_by, shows};
 use hx_answer::advice_of;
 use std::alloc::{AllocError, Global};
 use std::fs;

@@ -1,7 +1,6 @@
 // Reports as they are printed.
 
-use crate::globals::put_globals;
-use crate::text::report;
+use hx_stats::{put_globals, report};
 use hx_tree::outcome::{Counts, End, Fault, FaultKind, Finish, Outcome};
 use hx_tree::token::Pos;
 use hx_tree::tree::{Func, GlobalDecl, Item, Name, Params, Program, Returns, Shape};

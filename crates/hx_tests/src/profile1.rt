@@ -1,6 +1,6 @@
 // A program of profile 1 that is made into one of today.
 
-use crate::{from_profile1, p1};
+use hx_profile1::{from_profile1, p1};
 use hx_tree::token::Pos;
 use hx_tree::tree::{
     Assignment, BinaryOp, Expr, Func, GlobalDecl, Item, Name, Operator, Params, Part, Place,

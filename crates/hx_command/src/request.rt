@@ -162,7 +162,7 @@ fn request_of<'a>(name: &str, inner: &ArgMatches<'a>) -> Option<Request<'a>> {
 }
 
 /// Reads a command line, or tells what is wrong with it. `None` stands for a line that names no command.
-pub(crate) fn read_words<'a, S: AsStr>(
+pub fn read_words<'a, S: AsStr>(
     alloc: Global,
     words: &'a [S],
 ) -> Result<Option<Request<'a>>, Error> {

@@ -1,6 +1,6 @@
 // Reports of runs, and the lines of devices and of want of memory.
 
-use crate::tests::{PAST_THE_END, shows};
+use crate::whole::{PAST_THE_END, shows};
 use hx_answer::tell_refusal;
 use hx_run::Refusal;
 use std::alloc::Global;

@@ -1,6 +1,6 @@
 // Help, and what is told of wrong command lines.
 
-use crate::tests::done_by;
+use crate::whole::done_by;
 use std::process::Abort;
 use std::rt::Files;
 use std::sync::Wait;

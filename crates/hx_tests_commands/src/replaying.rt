@@ -1,6 +1,6 @@
 // Schedules, replayed.
 
-use crate::tests::{SUM, TWO_TURNS, done_by, expect, shows};
+use crate::whole::{SUM, TWO_TURNS, done_by, expect, shows};
 use hx_answer::{NoTrace, Schedule, Shown, replay_of};
 use hx_run::Refusal;
 use hx_tree::outcome::Settings;

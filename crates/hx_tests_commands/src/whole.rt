@@ -1,16 +1,6 @@
 // Whole commands, on files that each test writes for itself.
 
-mod advising;
-mod drawing;
-mod edges;
-mod explaining;
-mod helping;
-mod listed;
-mod replaying;
-mod reporting;
-mod telling;
-
-use crate::command::command;
+use hx_command::command;
 use std::io::Write;
 use std::process::Abort;
 use std::rt::Files;

@@ -1,6 +1,6 @@
 // Numbers that are explained, refusals that are told in more words, and globals.
 
-use crate::tests::{PAST_THE_END, SUM, TWO_TURNS, done_by, expect, shows};
+use crate::whole::{PAST_THE_END, SUM, TWO_TURNS, done_by, expect, shows};
 use hx_explain::{fault_texts, refusal_texts};
 use hx_run::{PlainRan, compile, run_plain};
 use hx_tree::outcome::End;

@@ -1,6 +1,6 @@
 // Timelines. The tables are drawn by hand from the events of the same schedules.
 
-use crate::tests::{TWO_TURNS, done_by, shows};
+use crate::whole::{TWO_TURNS, done_by, shows};
 use std::fs;
 use std::process::Abort;
 use std::rt::Files;

@@ -1,9 +1,6 @@
 // Devices that fail at each of their calls in turn.
 
-use crate::memory::{MemorySink, MemorySource};
-use crate::reading::{ReadError, read_all};
-use crate::system::{Reading, Writing};
-use crate::writing::write_all;
+use hx_device::{MemorySink, MemorySource, ReadError, Reading, Writing, read_all, write_all};
 use std::alloc::Global;
 use std::io;
 use std::io::{Error, ErrorKind, Read, Write};

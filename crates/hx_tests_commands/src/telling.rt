@@ -1,6 +1,6 @@
 // What replays tell of each step. The lines are worked by hand from the rules of replays.
 
-use crate::tests::{TWO_TURNS, shows};
+use crate::whole::{TWO_TURNS, shows};
 use std::process::Abort;
 use std::rt::Files;
 use std::sync::Wait;
