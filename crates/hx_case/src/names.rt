@@ -205,16 +205,29 @@ pub(crate) fn wrong_count(
     pos: Pos,
 ) -> Result<Vec<u8>, AllocError> {
     let name = word_at(source, pos);
-    let all = tokens(alloc, source).map_err(|_| AllocError)?;
-    let here = tokens_from(all.as_slice(), pos);
-    let given = match here {
-        [] => 0,
-        [_, behind @ ..] => arguments(behind),
-    };
+    let given = given_at(alloc, source, pos)?;
     let takes = match called_function(program, name) {
         Some(f) => parameters(f).len(),
         None => 0,
     };
+    counts_told(alloc, name, takes, given)
+}
+
+// How many arguments the call at a place has.
+fn given_at(alloc: Global, source: &[u8], pos: Pos) -> Result<usize, AllocError> {
+    let all = tokens(alloc, source).map_err(|_| AllocError)?;
+    match tokens_from(all.as_slice(), pos) {
+        [] => Ok(0),
+        [_, behind @ ..] => Ok(arguments(behind)),
+    }
+}
+
+fn counts_told(
+    alloc: Global,
+    name: &[u8],
+    takes: usize,
+    given: usize,
+) -> Result<Vec<u8>, AllocError> {
     let mut text = quoted(alloc, name, b"' has ")?;
     put_count(&mut text, takes, b" parameter")?;
     text.extend_from_slice(b", and is called with ")?;

@@ -48,13 +48,13 @@ fn our_tokens(alloc: Global, text: &'static [u8]) -> Result<Vec<Token<'static>>,
     tokens(alloc, text).map_err(|_| AllocError)
 }
 
-// Whether some program begins with these tokens and then with one of this kind, as far as the parser finds.
-fn can_follow(
+// These tokens, and then one of this kind at a place.
+fn line_of<'a>(
     alloc: Global,
-    before: &[Token<'_>],
+    before: &[Token<'a>],
     kind: Kind,
     pos: Pos,
-) -> Result<bool, AllocError> {
+) -> Result<Vec<Token<'a>>, AllocError> {
     let mut line = Vec::with_capacity(alloc, before.len().saturating_add(1))?;
     line.extend_from_slice(before)?;
     line.push(Token {
@@ -63,7 +63,23 @@ fn can_follow(
         span: Span { start: 0, end: 1 },
         pos,
     })?;
-    match parse(alloc, line.as_slice()) {
+    Ok(line)
+}
+
+// Whether some program begins with these tokens and then with one of this kind, as far as the parser finds.
+fn can_follow(
+    alloc: Global,
+    before: &[Token<'_>],
+    kind: Kind,
+    pos: Pos,
+) -> Result<bool, AllocError> {
+    let line = line_of(alloc, before, kind, pos)?;
+    begins_a_program(alloc, line.as_slice(), pos)
+}
+
+// Whether some program begins with these tokens, of which the last is at a place.
+fn begins_a_program(alloc: Global, line: &[Token<'_>], pos: Pos) -> Result<bool, AllocError> {
+    match parse(alloc, line) {
         Ok(_) => Ok(true),
         Err(ParseError::Syntax(found)) => Ok(found != pos),
         Err(ParseError::TooDeep) => Ok(false),
@@ -80,6 +96,53 @@ fn told(alloc: Global, token: &Token<'_>) -> Result<Vec<u8>, AllocError> {
     }
 }
 
+// A token as it is told, where it can stand behind these tokens.
+fn told_choice(
+    alloc: Global,
+    before: &[Token<'_>],
+    token: &Token<'_>,
+    pos: Pos,
+) -> Result<Option<Vec<u8>>, AllocError> {
+    if can_follow(alloc, before, token.kind, pos)? {
+        Ok(Some(told(alloc, token)?))
+    } else {
+        Ok(None)
+    }
+}
+
+// Those of some tokens that can stand behind others, as they are told.
+fn told_choices(
+    alloc: Global,
+    before: &[Token<'_>],
+    all: &[Token<'_>],
+    pos: Pos,
+) -> Result<Vec<Vec<u8>>, AllocError> {
+    let mut found = Vec::new(alloc);
+    for token in all {
+        if let Some(text) = told_choice(alloc, before, token, pos)? {
+            found.push(text)?;
+        }
+    }
+    Ok(found)
+}
+
+fn put_together(
+    alloc: Global,
+    choices: &mut Choices,
+    together: &'static [u8],
+) -> Result<(), AllocError> {
+    let text = say(alloc, &[together])?;
+    choices.together.push(text)?;
+    Ok(())
+}
+
+fn put_single(choices: &mut Choices, found: Vec<Vec<u8>>) -> Result<(), AllocError> {
+    for text in found {
+        choices.single.push(text)?;
+    }
+    Ok(())
+}
+
 // Puts what of a group can stand behind these tokens, and answers whether each of it can.
 fn put_group(
     alloc: Global,
@@ -89,20 +152,80 @@ fn put_group(
     pos: Pos,
 ) -> Result<bool, AllocError> {
     let all = our_tokens(alloc, group.tokens)?;
-    let mut found = Vec::new(alloc);
-    for token in &all {
-        if can_follow(alloc, before, token.kind, pos)? {
-            found.push(told(alloc, token)?)?;
-        }
-    }
+    let found = told_choices(alloc, before, all.as_slice(), pos)?;
     if found.len() == all.len() {
-        choices.together.push(say(alloc, &[group.together])?)?;
+        put_together(alloc, choices, group.together)?;
         return Ok(true);
     }
-    for text in found {
-        choices.single.push(text)?;
-    }
+    put_single(choices, found)?;
     Ok(false)
+}
+
+/// Which groups were told together.
+#[derive(Clone, Copy)]
+struct Together {
+    expression: bool,
+    statement: bool,
+    operator: bool,
+}
+
+impl Together {
+    // Whether a token was told with one of these.
+    fn tells(self, kind: Kind) -> bool {
+        match kind {
+            Kind::Name => self.expression || self.statement,
+            Kind::Mark(Mark::Minus) => self.expression || self.operator,
+            _ => false,
+        }
+    }
+}
+
+fn put_groups(
+    alloc: Global,
+    choices: &mut Choices,
+    before: &[Token<'_>],
+    pos: Pos,
+) -> Result<Together, AllocError> {
+    let expression = put_group(alloc, choices, before, &EXPRESSION, pos)?;
+    let statement = put_group(alloc, choices, before, &STATEMENT, pos)?;
+    let operator = put_group(alloc, choices, before, &OPERATOR, pos)?;
+    put_group(alloc, choices, before, &ASSIGNMENT, pos)?;
+    Ok(Together {
+        expression,
+        statement,
+        operator,
+    })
+}
+
+// Puts those of some tokens that can stand behind others, and weren't told in a group.
+fn put_others(
+    alloc: Global,
+    choices: &mut Choices,
+    before: &[Token<'_>],
+    others: &[Token<'_>],
+    together: Together,
+    pos: Pos,
+) -> Result<(), AllocError> {
+    for token in others {
+        if together.tells(token.kind) {
+            continue;
+        }
+        if let Some(text) = told_choice(alloc, before, token, pos)? {
+            choices.single.push(text)?;
+        }
+    }
+    Ok(())
+}
+
+fn put_all(
+    alloc: Global,
+    choices: &mut Choices,
+    before: &[Token<'_>],
+    pos: Pos,
+) -> Result<(), AllocError> {
+    let together = put_groups(alloc, choices, before, pos)?;
+    let others = our_tokens(alloc, OTHERS)?;
+    put_others(alloc, choices, before, others.as_slice(), together, pos)
 }
 
 // What can stand behind these tokens, at a place.
@@ -111,20 +234,7 @@ fn choices_at(alloc: Global, before: &[Token<'_>], pos: Pos) -> Result<Choices, 
         together: Vec::new(alloc),
         single: Vec::new(alloc),
     };
-    let expression = put_group(alloc, &mut choices, before, &EXPRESSION, pos)?;
-    let statement = put_group(alloc, &mut choices, before, &STATEMENT, pos)?;
-    let operator = put_group(alloc, &mut choices, before, &OPERATOR, pos)?;
-    put_group(alloc, &mut choices, before, &ASSIGNMENT, pos)?;
-    for token in &our_tokens(alloc, OTHERS)? {
-        let is_told = match token.kind {
-            Kind::Name => expression || statement,
-            Kind::Mark(Mark::Minus) => expression || operator,
-            _ => false,
-        };
-        if !is_told && can_follow(alloc, before, token.kind, pos)? {
-            choices.single.push(told(alloc, token)?)?;
-        }
-    }
+    put_all(alloc, &mut choices, before, pos)?;
     Ok(choices)
 }
 
@@ -155,31 +265,40 @@ fn listed(alloc: Global, choices: &Choices) -> Result<Vec<u8>, AllocError> {
     Ok(text)
 }
 
-/// What stands where no program goes on so, and what could stand there.
-pub(crate) fn no_program(alloc: Global, source: &[u8], pos: Pos) -> Result<Vec<u8>, AllocError> {
-    let all = tokens(alloc, source).map_err(|_| AllocError)?;
-    let count = all.iter().take_while(|token| token.pos != pos).count();
-    let (before, behind) = all.as_slice().split_at(count);
+// What can stand behind these tokens, at a place, as one text.
+fn choices_told(alloc: Global, before: &[Token<'_>], pos: Pos) -> Result<Vec<u8>, AllocError> {
     let choices = choices_at(alloc, before, pos)?;
-    let choices = listed(alloc, &choices)?;
-    match behind.first() {
+    listed(alloc, &choices)
+}
+
+// What stands at a place, if anything does, and the choices there.
+fn place_told(
+    alloc: Global,
+    token: Option<&Token<'_>>,
+    choices: &[u8],
+) -> Result<Vec<u8>, AllocError> {
+    match token {
         Some(token) => say(
             alloc,
-            &[
-                b"'",
-                token.text,
-                b"' can't stand here; ",
-                choices.as_slice(),
-                b" can.",
-            ],
+            &[b"'", token.text, b"' can't stand here; ", choices, b" can."],
         ),
         None => say(
             alloc,
-            &[
-                b"The source can't end here; ",
-                choices.as_slice(),
-                b" can follow.",
-            ],
+            &[b"The source can't end here; ", choices, b" can follow."],
         ),
     }
+}
+
+// What stands at a place among tokens where no program goes on so, and what could stand there.
+fn no_program_of(alloc: Global, all: &[Token<'_>], pos: Pos) -> Result<Vec<u8>, AllocError> {
+    let count = all.iter().take_while(|token| token.pos != pos).count();
+    let (before, behind) = all.split_at(count);
+    let choices = choices_told(alloc, before, pos)?;
+    place_told(alloc, behind.first(), choices.as_slice())
+}
+
+/// What stands where no program goes on so, and what could stand there.
+pub(crate) fn no_program(alloc: Global, source: &[u8], pos: Pos) -> Result<Vec<u8>, AllocError> {
+    let all = tokens(alloc, source).map_err(|_| AllocError)?;
+    no_program_of(alloc, all.as_slice(), pos)
 }
