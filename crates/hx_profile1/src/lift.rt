@@ -1,6 +1,6 @@
 // The program of today that a program of profile 1 is, node by node.
 
-ghost use Rattle.std.specs.Prelude.{◌≡◌, IfOk, map, option_map};
+ghost use Rattle.std.specs.Prelude.{◌≡◌, ◌∷◌, [], ◌++◌, Ok, IfOk, OnOk, IsOkAnd, map, option_map};
 ghost use Rattle.hx_tree.specs.Tree as new;
 ghost use Rattle.hx_tree.specs.View as made;
 ghost use Rattle.hx_profile1.specs.Tree as old;
@@ -14,6 +14,32 @@ use hx_tree::tree::{
     Assignment, Expr, ForClauses, Func, Init, Item, LocalDecl, Part, Place, Program, Stmt,
 };
 use std::alloc::{AllocError, Global};
+
+// Both values, or the error of one that is missing. What came with the other's error is dropped here, so that a caller holds nothing that it
+// would have to drop where it leaves early: that is what takes the prover long in a function that leaves early at many places.
+fn both<T: Drop, U: Drop>(
+    first: Result<T, AllocError>,
+    second: Result<U, AllocError>,
+) -> Result<(T, U), AllocError>
+    ensures { IfOk result (λ both. (first ≡ Ok both.0) × (second ≡ Ok both.1)) }
+{
+    Ok((first?, second?))
+}
+
+// A value in a box, or the error in its place, or that of no memory for the box.
+fn boxed<T: Drop>(alloc: Global, value: Result<T, AllocError>) -> Result<Box<T>, AllocError>
+    ensures { IfOk result (λ r. value ≡ Ok r.value) }
+{
+    Ok(Box::new(alloc, value?)?)
+}
+
+// Adds a value to a list, or gives the error in its place, or that of no memory for it.
+fn add<T: Drop>(all: &mut Vec<T>, value: Result<T, AllocError>) -> Result<(), AllocError>
+    ensures { OnOk result (IsOkAnd value (λ v. all.new.items ≡ all.old.items ++ (v ∷ []))) }
+{
+    all.push(value?)?;
+    Ok(())
+}
 
 #[cycle(expressions)]
 fn expression(alloc: Global, e: p1::Expr) -> Result<Expr, AllocError>
@@ -38,8 +64,7 @@ fn expression(alloc: Global, e: p1::Expr) -> Result<Expr, AllocError>
 fn boxed_expression(alloc: Global, e: Box<p1::Expr>) -> Result<Box<Expr>, AllocError>
     ensures { IfOk result (λ r. made.expr_of r.value ≡ lift_expr (given.expr_of e.value)) }
 {
-    let e = expression(alloc, Box::into_inner(e))?;
-    Ok(Box::new(alloc, e)?)
+    boxed(alloc, expression(alloc, Box::into_inner(e)))
 }
 
 #[cycle(expressions)]
@@ -48,7 +73,7 @@ fn arguments(alloc: Global, es: Vec<p1::Expr>) -> Result<Vec<Expr>, AllocError>
 {
     let mut all = Vec::new(alloc);
     for e in es {
-        all.push(expression(alloc, e)?)?;
+        add(&mut all, expression(alloc, e))?;
     }
     Ok(all)
 }
@@ -77,12 +102,12 @@ fn assignment(alloc: Global, a: p1::Assignment) -> Result<Assignment, AllocError
 {
     match a {
         p1::Assignment::Set(p, e) => {
-            let p = place(alloc, p)?;
-            Ok(Assignment::Set(p, expression(alloc, e)?))
+            let (p, e) = both(place(alloc, p), expression(alloc, e))?;
+            Ok(Assignment::Set(p, e))
         }
         p1::Assignment::Update(p, op, pos, e) => {
-            let p = place(alloc, p)?;
-            Ok(Assignment::Update(p, op, pos, expression(alloc, e)?))
+            let (p, e) = both(place(alloc, p), expression(alloc, e))?;
+            Ok(Assignment::Update(p, op, pos, e))
         }
         p1::Assignment::Increment(p) => Ok(Assignment::Increment(place(alloc, p)?)),
         p1::Assignment::Decrement(p) => Ok(Assignment::Decrement(place(alloc, p)?)),
@@ -101,7 +126,7 @@ fn locals(alloc: Global, ds: Vec<p1::LocalDecl>) -> Result<Vec<LocalDecl>, Alloc
 {
     let mut all = Vec::new(alloc);
     for d in ds {
-        all.push(local(alloc, d)?)?;
+        add(&mut all, local(alloc, d))?;
     }
     Ok(all)
 }
@@ -129,10 +154,40 @@ fn step(alloc: Global, a: Option<p1::Assignment>) -> Result<Option<Assignment>, 
 fn clauses(alloc: Global, h: p1::ForClauses) -> Result<ForClauses, AllocError>
     ensures { IfOk result (λ r. made.for_clauses_of r ≡ lift_clauses (given.for_clauses_of h)) }
 {
-    let init = init(alloc, h.init)?;
-    let test = if_there(alloc, h.test)?;
-    let step = step(alloc, h.step)?;
+    let test_and_step = both(if_there(alloc, h.test), step(alloc, h.step));
+    let (init, (test, step)) = both(init(alloc, h.init), test_and_step)?;
     Ok(ForClauses { init, test, step })
+}
+
+// The test of an `if` or a `while` and what stands behind it. This and the next two are `both` at one pair of types each, where `statement`
+// calls it: a function with no type parameters takes the prover less time to call.
+fn test_and_body(
+    test: Result<Expr, AllocError>,
+    s: Result<Box<Stmt>, AllocError>,
+) -> Result<(Expr, Box<Stmt>), AllocError>
+    ensures { IfOk result (λ both. (test ≡ Ok both.0) × (s ≡ Ok both.1)) }
+{
+    both(test, s)
+}
+
+// The same with what stands behind the `else`.
+fn with_other(
+    test_and_body: Result<(Expr, Box<Stmt>), AllocError>,
+    other: Result<Box<Stmt>, AllocError>,
+) -> Result<((Expr, Box<Stmt>), Box<Stmt>), AllocError>
+    ensures { IfOk result (λ both. (test_and_body ≡ Ok both.0) × (other ≡ Ok both.1)) }
+{
+    both(test_and_body, other)
+}
+
+// The clauses of a `for` and what stands behind them.
+fn clauses_and_body(
+    head: Result<ForClauses, AllocError>,
+    s: Result<Box<Stmt>, AllocError>,
+) -> Result<(ForClauses, Box<Stmt>), AllocError>
+    ensures { IfOk result (λ both. (head ≡ Ok both.0) × (s ≡ Ok both.1)) }
+{
+    both(head, s)
 }
 
 #[cycle(statements)]
@@ -147,21 +202,21 @@ fn statement(alloc: Global, s: p1::Stmt) -> Result<Stmt, AllocError>
         p1::Stmt::Print(pos, e) => Ok(Stmt::Print(pos, expression(alloc, e)?)),
         p1::Stmt::Emit(pos, e) => Ok(Stmt::Emit(pos, expression(alloc, e)?)),
         p1::Stmt::If(test, s) => {
-            let test = expression(alloc, test)?;
-            Ok(Stmt::If(test, boxed_statement(alloc, s)?))
+            let (test, s) = test_and_body(expression(alloc, test), boxed_statement(alloc, s))?;
+            Ok(Stmt::If(test, s))
         }
         p1::Stmt::IfElse(test, s, other) => {
-            let test = expression(alloc, test)?;
-            let s = boxed_statement(alloc, s)?;
-            Ok(Stmt::IfElse(test, s, boxed_statement(alloc, other)?))
+            let test_and_body = test_and_body(expression(alloc, test), boxed_statement(alloc, s));
+            let ((test, s), other) = with_other(test_and_body, boxed_statement(alloc, other))?;
+            Ok(Stmt::IfElse(test, s, other))
         }
         p1::Stmt::While(marked, test, s) => {
-            let test = expression(alloc, test)?;
-            Ok(Stmt::While(marked, test, boxed_statement(alloc, s)?))
+            let (test, s) = test_and_body(expression(alloc, test), boxed_statement(alloc, s))?;
+            Ok(Stmt::While(marked, test, s))
         }
         p1::Stmt::For(marked, head, s) => {
-            let head = clauses(alloc, head)?;
-            Ok(Stmt::For(marked, head, boxed_statement(alloc, s)?))
+            let (head, s) = clauses_and_body(clauses(alloc, head), boxed_statement(alloc, s))?;
+            Ok(Stmt::For(marked, head, s))
         }
         p1::Stmt::Break(pos) => Ok(Stmt::Break(pos)),
         p1::Stmt::Continue(pos) => Ok(Stmt::Continue(pos)),
@@ -173,17 +228,23 @@ fn statement(alloc: Global, s: p1::Stmt) -> Result<Stmt, AllocError>
 fn boxed_statement(alloc: Global, s: Box<p1::Stmt>) -> Result<Box<Stmt>, AllocError>
     ensures { IfOk result (λ r. made.stmt_of r.value ≡ lift_stmt (given.stmt_of s.value)) }
 {
-    let s = statement(alloc, Box::into_inner(s))?;
-    Ok(Box::new(alloc, s)?)
+    boxed(alloc, statement(alloc, Box::into_inner(s)))
 }
 
+// The errors are handed on without `?`, whose calls at types as large as these take the prover three times as long.
 #[cycle(statements)]
 fn part(alloc: Global, p: p1::Part) -> Result<Part, AllocError>
     ensures { IfOk result (λ r. made.part_of r ≡ lift_part (given.part_of p)) }
 {
     match p {
-        p1::Part::Locals(ds) => Ok(Part::Locals(locals(alloc, ds)?)),
-        p1::Part::Stmt(s) => Ok(Part::Stmt(statement(alloc, s)?)),
+        p1::Part::Locals(ds) => match locals(alloc, ds) {
+            Ok(ds) => Ok(Part::Locals(ds)),
+            Err(error) => Err(error),
+        },
+        p1::Part::Stmt(s) => match statement(alloc, s) {
+            Ok(s) => Ok(Part::Stmt(s)),
+            Err(error) => Err(error),
+        },
     }
 }
 
@@ -193,7 +254,7 @@ fn parts(alloc: Global, ps: Vec<p1::Part>) -> Result<Vec<Part>, AllocError>
 {
     let mut all = Vec::new(alloc);
     for p in ps {
-        all.push(part(alloc, p)?)?;
+        add(&mut all, part(alloc, p))?;
     }
     Ok(all)
 }
@@ -224,7 +285,7 @@ fn items(alloc: Global, is: Vec<p1::Item>) -> Result<Vec<Item>, AllocError>
 {
     let mut all = Vec::new(alloc);
     for i in is {
-        all.push(item(alloc, i)?)?;
+        add(&mut all, item(alloc, i))?;
     }
     Ok(all)
 }
