@@ -1,12 +1,12 @@
 // The words of assignments, and of the clauses of loops.
 
-ghost use Rattle.std.specs.Prelude.{◌≡◌, OnOk, map, option_map};
+ghost use Rattle.std.specs.Prelude.{◌≡◌, ◌+◌, ◌≤◌, OnOk, length, map, option_map};
 ghost use Rattle.hx_check.specs.Views.{resolved_assignment, resolved_expr, resolved_simple};
 ghost use Rattle.hx_lowering.specs.Draft.{with_lines};
 ghost use Rattle.hx_lowering.specs.Lines as lines;
 
 use crate::draft::{Drafted, Version, array_of};
-use crate::expression::put_expr;
+use crate::expression::{put_expr, put_part};
 use hx_check::resolved::{Assignment, Expr, Place, Simple};
 use hx_code::word::Word;
 use std::alloc::AllocError;
@@ -20,41 +20,85 @@ pub(crate) fn put_assignment(
     ensures { OnOk result (draft.new ≡ with_lines draft.old (lines.assignment_lines (resolved_assignment a.now) version.now draft.old.lines)) }
 {
     match a {
-        Assignment::Set(Place::Private(k), e) => {
-            put_expr(draft, e, version, 0)?;
-            draft.put(version, 1, version.set_private(*k)?)
-        }
+        Assignment::Set(Place::Private(k), e) => put_set_private(draft, *k, e, version),
         Assignment::Set(Place::Word(address), e) => {
-            put_expr(draft, e, version, 0)?;
-            draft.put(version, 1, Word::SetGlob(*address))
+            put_part(draft, e, version, 0, Word::SetGlob(*address))
         }
         Assignment::Set(Place::Element(words, at, index), e) => {
             put_expr(draft, index, version, 0)?;
-            put_expr(draft, e, version, 1)?;
-            draft.put(version, 2, Word::SetElem(array_of(*words), *at))
+            put_part(draft, e, version, 1, Word::SetElem(array_of(*words), *at))
         }
         Assignment::Update(Place::Private(k), op, at, e) => {
-            draft.put(version, 0, version.get_private(*k)?)?;
-            put_expr(draft, e, version, 1)?;
-            draft.put(version, 2, Word::Binary(*op, *at))?;
-            draft.put(version, 1, version.set_private(*k)?)
+            put_update_private(draft, *k, e, version, Word::Binary(*op, *at))
         }
         Assignment::Update(Place::Word(address), op, at, e) => {
             draft.put(version, 0, Word::Glob(*address))?;
-            put_expr(draft, e, version, 1)?;
-            draft.put(version, 2, Word::Binary(*op, *at))?;
-            draft.put(version, 1, Word::SetGlob(*address))
+            put_change(
+                draft,
+                e,
+                version,
+                1,
+                Word::Binary(*op, *at),
+                Word::SetGlob(*address),
+            )
         }
         Assignment::Update(Place::Element(words, place, index), op, at, e) => {
             let array = array_of(*words);
-            put_expr(draft, index, version, 0)?;
-            draft.put(version, 1, Word::Dup)?;
+            put_part(draft, index, version, 0, Word::Dup)?;
             draft.put(version, 2, Word::Elem(array, *place))?;
-            put_expr(draft, e, version, 2)?;
-            draft.put(version, 3, Word::Binary(*op, *at))?;
-            draft.put(version, 2, Word::SetElem(array, *place))
+            put_change(
+                draft,
+                e,
+                version,
+                2,
+                Word::Binary(*op, *at),
+                Word::SetElem(array, *place),
+            )
         }
     }
+}
+
+// The words of an expression, and behind them the word that writes its value to a private word.
+fn put_set_private(
+    draft: &mut Drafted,
+    private: u32,
+    e: &Expr,
+    version: &Version<'_>,
+) -> Result<(), AllocError>
+    ensures { OnOk result (draft.new ≡ with_lines draft.old (lines.put version.now 1 (lines.set_private version.now private) (lines.expr_lines (resolved_expr e.now) version.now 0 draft.old.lines))) }
+{
+    put_part(draft, e, version, 0, version.set_private(private)?)
+}
+
+// The words of an update of a private word by this operator.
+fn put_update_private(
+    draft: &mut Drafted,
+    private: u32,
+    e: &Expr,
+    version: &Version<'_>,
+    change: Word,
+) -> Result<(), AllocError>
+    ensures { OnOk result (draft.new ≡ with_lines draft.old (lines.put version.now 1 (lines.set_private version.now private) (lines.put version.now 2 change (lines.expr_lines (resolved_expr e.now) version.now 1 (lines.put version.now 0 (lines.get_private version.now private) draft.old.lines))))) }
+{
+    draft.put(version, 0, version.get_private(private)?)?;
+    put_change(draft, e, version, 1, change, version.set_private(private)?)
+}
+
+// What is left of an update where the value to change is on top: the words of the other value, the operator, and the word that
+// writes.
+fn put_change(
+    draft: &mut Drafted,
+    e: &Expr,
+    version: &Version<'_>,
+    height: u32,
+    change: Word,
+    write: Word,
+) -> Result<(), AllocError>
+    requires { height ≤ length draft.old.lines }
+    ensures { OnOk result (draft.new ≡ with_lines draft.old (lines.put version.now height write (lines.put version.now (height + 1) change (lines.expr_lines (resolved_expr e.now) version.now height draft.old.lines)))) }
+{
+    put_part(draft, e, version, height, change)?;
+    draft.put(version, height, write)
 }
 
 /// Puts the words of a declared local or an assignment.
@@ -66,10 +110,7 @@ pub(crate) fn put_simple(
     ensures { OnOk result (draft.new ≡ with_lines draft.old (lines.simple_lines (resolved_simple s.now) version.now draft.old.lines)) }
 {
     match s {
-        Simple::Declare(k, e) => {
-            put_expr(draft, e, version, 0)?;
-            draft.put(version, 1, version.set_private(*k)?)
-        }
+        Simple::Declare(k, e) => put_set_private(draft, *k, e, version),
         Simple::Assign(a) => put_assignment(draft, a, version),
     }
 }
@@ -99,10 +140,7 @@ pub(crate) fn put_test(
 {
     match test {
         None => Ok(()),
-        Some(e) => {
-            put_expr(draft, e, version, 0)?;
-            draft.put(version, 1, Word::JumpFalse(exit))
-        }
+        Some(e) => put_part(draft, e, version, 0, Word::JumpFalse(exit)),
     }
 }
 

@@ -1,7 +1,7 @@
 // The words of expressions.
 
 ghost use Rattle.std.specs.Prelude.{◌≡◌, ◌+◌, ◌<◌, ◌^◌, ◌≤◌, OnOk, OkIff, IfOk, map, length, pos};
-ghost use Rattle.hx_code.specs.declared.word.Word.TheVariants.{Const};
+ghost use Rattle.hx_code.specs.declared.word.Word.TheVariants.{Const, Jump, JumpFalse, JumpTrue};
 ghost use Rattle.hx_check.specs.Resolved.{exprs};
 ghost use Rattle.hx_check.specs.Views.{resolved_expr};
 ghost use Rattle.hx_lowering.specs.Draft.{with_lines};
@@ -29,73 +29,166 @@ pub(crate) fn put_expr(
     ensures longer { OnOk result (length draft.old.lines < length draft.new.lines) }
 {
     match e {
-        Expr::Number(n) => draft.put(version, height, constant(*n)?),
-        Expr::Private(k) => draft.put(version, height, version.get_private(*k)?),
+        Expr::Number(n) => put_number(draft, *n, version, height),
+        Expr::Private(k) => put_private(draft, *k, version, height),
         Expr::Word(a) => draft.put(version, height, Word::Glob(*a)),
         Expr::Element(words, at, index) => {
-            put_expr(draft, index, version, height)?;
-            let above = draft.above(height);
-            draft.put(version, above, Word::Elem(array_of(*words), *at))
+            put_part(
+                draft,
+                index,
+                version,
+                height,
+                Word::Elem(array_of(*words), *at),
+            )
         }
         Expr::Call(function, at, arguments) => {
-            let above = put_exprs(draft, arguments, version, height)?;
-            draft.put(version, above, Word::Call(*function, *at))
+            put_call(
+                draft,
+                arguments,
+                version,
+                height,
+                Word::Call(*function, *at),
+            )
         }
-        Expr::Unary(op, inner) => {
-            put_expr(draft, inner, version, height)?;
-            let above = draft.above(height);
-            draft.put(version, above, Word::Unary(*op))
-        }
+        Expr::Unary(op, inner) => put_part(draft, inner, version, height, Word::Unary(*op)),
         Expr::Binary(BinaryOp::Strict(op), at, left, right) => {
             put_expr(draft, left, version, height)?;
             let above = draft.above(height);
-            put_expr(draft, right, version, above)?;
-            let both = draft.above(above);
-            draft.put(version, both, Word::Binary(*op, *at))
+            put_part(draft, right, version, above, Word::Binary(*op, *at))
         }
         Expr::Binary(BinaryOp::And, _, left, right) => {
             let zero_at = behind_sides(draft.place(), left, right)?;
-            put_side(draft, left, version, height, Word::JumpFalse(zero_at))?;
-            put_side(draft, right, version, height, Word::JumpFalse(zero_at))?;
-            draft.put(version, height, Word::Const(1))?;
-            let above = draft.above(height);
-            draft.put(version, above, Word::Jump(zero_at + 1))?;
-            draft.put(version, height, Word::Const(0))
+            put_part(draft, left, version, height, Word::JumpFalse(zero_at))?;
+            put_last_of_and(draft, right, version, height, zero_at)
         }
         Expr::Binary(BinaryOp::Or, _, left, right) => {
             let one_at = behind_sides(draft.place(), left, right)?;
-            put_side(draft, left, version, height, Word::JumpTrue(one_at))?;
-            put_side(draft, right, version, height, Word::JumpTrue(one_at))?;
-            draft.put(version, height, Word::Const(0))?;
-            let above = draft.above(height);
-            draft.put(version, above, Word::Jump(one_at + 1))?;
-            draft.put(version, height, Word::Const(1))
+            put_part(draft, left, version, height, Word::JumpTrue(one_at))?;
+            put_last_of_or(draft, right, version, height, one_at)
         }
         Expr::Conditional(test, chosen, other) => {
             let (other_at, exit) = places_of_other(draft.place(), test, chosen, other)?;
-            put_side(draft, test, version, height, Word::JumpFalse(other_at))?;
-            put_side(draft, chosen, version, height, Word::Jump(exit))?;
+            put_part(draft, test, version, height, Word::JumpFalse(other_at))?;
+            put_part(draft, chosen, version, height, Word::Jump(exit))?;
             put_expr(draft, other, version, height)
         }
     }
 }
 
-// A side of `&&` or `||` with the jump where it decides; a test or a chosen part with its jump.
-#[cycle(expressions)]
-fn put_side(
+fn put_number(
     draft: &mut Drafted,
-    side: &Expr,
+    n: u32,
     version: &Version<'_>,
     height: u32,
-    decides: Word,
+) -> Result<(), AllocError>
+    ensures words { OnOk result (draft.new ≡ with_lines draft.old (lines.put version.now height (Const (pos n)) draft.old.lines)) }
+    ensures longer { OnOk result (length draft.new.lines ≡ length draft.old.lines + 1) }
+{
+    draft.put(version, height, constant(n)?)
+}
+
+fn put_private(
+    draft: &mut Drafted,
+    private: u32,
+    version: &Version<'_>,
+    height: u32,
+) -> Result<(), AllocError>
+    ensures words { OnOk result (draft.new ≡ with_lines draft.old (lines.put version.now height (lines.get_private version.now private) draft.old.lines)) }
+    ensures longer { OnOk result (length draft.new.lines ≡ length draft.old.lines + 1) }
+{
+    draft.put(version, height, version.get_private(private)?)
+}
+
+/// Puts the words of a part, and behind them a word that finds its value on top.
+#[cycle(expressions)]
+pub(crate) fn put_part(
+    draft: &mut Drafted,
+    part: &Expr,
+    version: &Version<'_>,
+    height: u32,
+    word: Word,
 ) -> Result<(), AllocError>
     requires { height ≤ length draft.old.lines }
-    ensures words { OnOk result (draft.new ≡ with_lines draft.old (lines.put version.now (height + 1) decides (lines.expr_lines (resolved_expr side.now) version.now height draft.old.lines))) }
+    ensures words { OnOk result (draft.new ≡ with_lines draft.old (lines.put version.now (height + 1) word (lines.expr_lines (resolved_expr part.now) version.now height draft.old.lines))) }
     ensures longer { OnOk result (length draft.old.lines < length draft.new.lines) }
 {
-    put_expr(draft, side, version, height)?;
+    put_expr(draft, part, version, height)?;
     let above = draft.above(height);
-    draft.put(version, above, decides)
+    draft.put(version, above, word)
+}
+
+/// Puts the words of a call: those of its arguments, and behind them a word that finds all of their values on top.
+#[cycle(expressions)]
+pub(crate) fn put_call(
+    draft: &mut Drafted,
+    arguments: &[Expr],
+    version: &Version<'_>,
+    height: u32,
+    word: Word,
+) -> Result<(), AllocError>
+    requires { height ≤ length draft.old.lines }
+    ensures words { OnOk result (draft.new ≡ with_lines draft.old (lines.put version.now (height + length arguments.now) word (lines.exprs_lines (exprs (map resolved_expr arguments.now)) version.now height draft.old.lines))) }
+    ensures longer { OnOk result (length draft.old.lines < length draft.new.lines) }
+{
+    let above = put_exprs(draft, arguments, version, height)?;
+    draft.put(version, above, word)
+}
+
+// The right side of `&&`, which jumps to the 0 at the end where it is 0, and that end.
+#[cycle(expressions)]
+fn put_last_of_and(
+    draft: &mut Drafted,
+    right: &Expr,
+    version: &Version<'_>,
+    height: u32,
+    zero_at: u32,
+) -> Result<(), AllocError>
+    requires over { zero_at + 1 < 2 ^ 32 }
+    requires height { height ≤ length draft.old.lines }
+    ensures words { let v = version.now in OnOk result (draft.new ≡ with_lines draft.old (lines.put v height (Const (pos 0)) (lines.put v (height + 1) (Jump (zero_at + 1)) (lines.put v height (Const (pos 1)) (lines.put v (height + 1) (JumpFalse zero_at) (lines.expr_lines (resolved_expr right.now) v height draft.old.lines)))))) }
+    ensures longer { OnOk result (length draft.old.lines < length draft.new.lines) }
+{
+    put_part(draft, right, version, height, Word::JumpFalse(zero_at))?;
+    put_outcome(draft, version, height, zero_at, 1, 0)
+}
+
+// The right side of `||`, which jumps to the 1 at the end where it isn't 0, and that end.
+#[cycle(expressions)]
+fn put_last_of_or(
+    draft: &mut Drafted,
+    right: &Expr,
+    version: &Version<'_>,
+    height: u32,
+    one_at: u32,
+) -> Result<(), AllocError>
+    requires over { one_at + 1 < 2 ^ 32 }
+    requires height { height ≤ length draft.old.lines }
+    ensures words { let v = version.now in OnOk result (draft.new ≡ with_lines draft.old (lines.put v height (Const (pos 1)) (lines.put v (height + 1) (Jump (one_at + 1)) (lines.put v height (Const (pos 0)) (lines.put v (height + 1) (JumpTrue one_at) (lines.expr_lines (resolved_expr right.now) v height draft.old.lines)))))) }
+    ensures longer { OnOk result (length draft.old.lines < length draft.new.lines) }
+{
+    put_part(draft, right, version, height, Word::JumpTrue(one_at))?;
+    put_outcome(draft, version, height, one_at, 0, 1)
+}
+
+// The end of `&&` or `||`, whose last word stands at a place: the value where no side decides, a jump over that word, and the
+// value where a side does.
+fn put_outcome(
+    draft: &mut Drafted,
+    version: &Version<'_>,
+    height: u32,
+    last: u32,
+    undecided: i32,
+    decided: i32,
+) -> Result<(), AllocError>
+    requires over { last + 1 < 2 ^ 32 }
+    requires height { height ≤ length draft.old.lines }
+    ensures words { OnOk result (draft.new ≡ with_lines draft.old (lines.put version.now height (Const decided) (lines.put version.now (height + 1) (Jump (last + 1)) (lines.put version.now height (Const undecided) draft.old.lines)))) }
+    ensures longer { OnOk result (length draft.old.lines < length draft.new.lines) }
+{
+    draft.put(version, height, Word::Const(undecided))?;
+    let above = draft.above(height);
+    draft.put(version, above, Word::Jump(last + 1))?;
+    draft.put(version, height, Word::Const(decided))
 }
 
 // The place of the last word of `&&` or `||`, whose sides begin at a place. There is one where 32 bits have the place behind

@@ -24,18 +24,30 @@ pub(crate) fn expr_size(e: &Expr) -> Option<u32>
         Expr::Number(_) => Some(1),
         Expr::Private(_) => Some(1),
         Expr::Word(_) => Some(1),
-        Expr::Element(_, _, index) => expr_size(index)?.checked_add(1),
-        Expr::Call(_, _, arguments) => exprs_size(arguments)?.checked_add(1),
-        Expr::Unary(_, inner) => expr_size(inner)?.checked_add(1),
-        Expr::Binary(op, _, left, right) => {
-            let more = binary_size(*op);
-            sum(expr_size(left)?, expr_size(right)?, more)
-        }
+        Expr::Element(_, _, index) => part_size(index, 1),
+        Expr::Call(_, _, arguments) => call_size(arguments, 1),
+        Expr::Unary(_, inner) => part_size(inner, 1),
+        Expr::Binary(op, _, left, right) => part_size(left, part_size(right, binary_size(*op))?),
         Expr::Conditional(test, chosen, other) => {
-            let first = sum(expr_size(test)?, expr_size(chosen)?, 2)?;
-            first.checked_add(expr_size(other)?)
+            part_size(test, part_size(chosen, part_size(other, 2)?)?)
         }
     }
+}
+
+/// The words of a part, and so many more.
+#[cycle(expressions)]
+pub(crate) fn part_size(part: &Expr, more: u32) -> Option<u32>
+    ensures { SomeIff result (size.expr_size (resolved_expr part.now) + more < 2 ^ 32) (size.expr_size (resolved_expr part.now) + more) }
+{
+    expr_size(part)?.checked_add(more)
+}
+
+/// The words of arguments, and so many more.
+#[cycle(expressions)]
+pub(crate) fn call_size(arguments: &[Expr], more: u32) -> Option<u32>
+    ensures { let words = size.exprs_size (exprs (map resolved_expr arguments.now)) in SomeIff result (words + more < 2 ^ 32) (words + more) }
+{
+    exprs_size(arguments)?.checked_add(more)
 }
 
 // The words of an operator beside its operands: jumps and constants, where the left side may decide.
@@ -66,13 +78,13 @@ pub(crate) fn assignment_size(a: &Assignment) -> Option<u32>
     ensures { SomeIff result (size.assignment_size (resolved_assignment a.now) < 2 ^ 32) (size.assignment_size (resolved_assignment a.now)) }
 {
     match a {
-        Assignment::Set(Place::Private(_), e) => expr_size(e)?.checked_add(1),
-        Assignment::Set(Place::Word(_), e) => expr_size(e)?.checked_add(1),
-        Assignment::Set(Place::Element(_, _, index), e) => sum(expr_size(index)?, expr_size(e)?, 1),
-        Assignment::Update(Place::Private(_), _, _, e) => expr_size(e)?.checked_add(3),
-        Assignment::Update(Place::Word(_), _, _, e) => expr_size(e)?.checked_add(3),
+        Assignment::Set(Place::Private(_), e) => part_size(e, 1),
+        Assignment::Set(Place::Word(_), e) => part_size(e, 1),
+        Assignment::Set(Place::Element(_, _, index), e) => part_size(e, part_size(index, 1)?),
+        Assignment::Update(Place::Private(_), _, _, e) => part_size(e, 3),
+        Assignment::Update(Place::Word(_), _, _, e) => part_size(e, 3),
         Assignment::Update(Place::Element(_, _, index), _, _, e) => {
-            sum(expr_size(index)?, expr_size(e)?, 4)
+            part_size(e, part_size(index, 4)?)
         }
     }
 }
@@ -82,7 +94,7 @@ pub(crate) fn simple_size(s: &Simple) -> Option<u32>
     ensures { SomeIff result (size.simple_size (resolved_simple s.now) < 2 ^ 32) (size.simple_size (resolved_simple s.now)) }
 {
     match s {
-        Simple::Declare(_, e) => expr_size(e)?.checked_add(1),
+        Simple::Declare(_, e) => part_size(e, 1),
         Simple::Assign(a) => assignment_size(a),
     }
 }
@@ -104,7 +116,7 @@ pub(crate) fn test_size(test: &Option<Expr>) -> Option<u32>
 {
     match test {
         None => Some(0),
-        Some(e) => expr_size(e)?.checked_add(1),
+        Some(e) => part_size(e, 1),
     }
 }
 
@@ -143,23 +155,42 @@ pub(crate) fn stmt_size(s: &Stmt) -> Option<u32>
     match s {
         Stmt::Block(inner) => stmts_size(inner),
         Stmt::Simple(simple) => simple_size(simple),
-        Stmt::CallStatement(_, _, arguments) => exprs_size(arguments)?.checked_add(2),
-        Stmt::Print(_, e) => expr_size(e)?.checked_add(1),
-        Stmt::Emit(_, e) => expr_size(e)?.checked_add(1),
-        Stmt::If(test, inner) => sum(expr_size(test)?, stmt_size(inner)?, 1),
-        Stmt::IfElse(test, inner, other) => {
-            let first = sum(expr_size(test)?, stmt_size(inner)?, 2)?;
-            first.checked_add(stmt_size(other)?)
-        }
-        Stmt::Loop(kind, clauses, body) => {
-            let turn = turn_size(clauses, stmt_size(body)?)?;
-            simples_size(&clauses.init)?.checked_add(loop_size(kind, turn)?)
-        }
-        Stmt::DoWhile(body, test) => sum(stmt_size(body)?, expr_size(test)?, 1),
+        Stmt::CallStatement(_, _, arguments) => call_size(arguments, 2),
+        Stmt::Print(_, e) => part_size(e, 1),
+        Stmt::Emit(_, e) => part_size(e, 1),
+        Stmt::If(test, inner) => guarded_size(inner, test, 1),
+        Stmt::IfElse(test, inner, other) => guarded_size(inner, test, behind_size(other, 2)?),
+        Stmt::Loop(kind, clauses, body) => loop_with_init_size(body, kind, clauses),
+        Stmt::DoWhile(body, test) => guarded_size(body, test, 1),
         Stmt::Break => Some(1),
         Stmt::Continue => Some(1),
-        Stmt::Return(e) => expr_size(e)?.checked_add(1),
+        Stmt::Return(e) => part_size(e, 1),
     }
+}
+
+// The words of a statement, and so many more.
+#[cycle(statements)]
+fn behind_size(s: &Stmt, more: u32) -> Option<u32>
+    ensures { SomeIff result (size.stmt_size (resolved_stmt s.now) + more < 2 ^ 32) (size.stmt_size (resolved_stmt s.now) + more) }
+{
+    stmt_size(s)?.checked_add(more)
+}
+
+// The words of a statement and of a test, and so many more.
+#[cycle(statements)]
+fn guarded_size(s: &Stmt, test: &Expr, more: u32) -> Option<u32>
+    ensures { let words = size.stmt_size (resolved_stmt s.now) + size.expr_size (resolved_expr test.now) + more in SomeIff result (words < 2 ^ 32) words }
+{
+    sum(stmt_size(s)?, expr_size(test)?, more)
+}
+
+// The words of a loop with this body, and of what stands before it.
+#[cycle(statements)]
+fn loop_with_init_size(body: &Stmt, kind: &LoopKind, clauses: &Clauses) -> Option<u32>
+    ensures { let c = resolved_clauses clauses.now in let words = size.simples_size c.init + size.loop_size (resolved_kind kind.now) (size.turn_size c (size.stmt_size (resolved_stmt body.now))) in SomeIff result (words < 2 ^ 32) words }
+{
+    let turn = turn_size(clauses, stmt_size(body)?)?;
+    simples_size(&clauses.init)?.checked_add(loop_size(kind, turn)?)
 }
 
 /// The words of statements.

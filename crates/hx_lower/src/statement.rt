@@ -1,18 +1,22 @@
 // The words of statements.
 
-ghost use Rattle.std.specs.Prelude.{◌≡◌, ◌+◌, OnOk, IfOk, map, length};
-ghost use Rattle.hx_check.specs.Resolved.{stmts};
+ghost use Rattle.std.specs.Prelude.{◌≡◌, ◌+◌, ◌++◌, ◌∷◌, [], OnOk, IfOk, map, option_map, length};
+ghost use Rattle.hx_check.specs.Resolved.{exprs, stmts};
 ghost use Rattle.hx_check.specs.Views.{resolved_clauses, resolved_expr, resolved_kind, resolved_region, resolved_stmt};
-ghost use Rattle.hx_lowering.specs.Draft.{stmt_draft, stmts_draft, turn_draft, plain_draft, turns_draft, region_draft, loop_draft, do_draft, targets, cells_from};
+ghost use Rattle.hx_lowering.specs.Draft.{stmt_draft, stmts_draft, turn_draft, plain_draft, turns_draft, region_draft, loop_draft, do_draft, targets, cells_from, counter_of as counter, put_word, with_lines};
+ghost use Rattle.hx_lowering.specs.Lines as lines;
 ghost use Rattle.hx_lowering.specs.Size as size;
+ghost use Rattle.hx_code.specs.Code.{RegionView};
+ghost use Rattle.hx_code.specs.declared.word.Word.TheVariants.{Drop as Dropped, Jump, JumpFalse};
 
 use crate::assignment::{put_simple, put_simples, put_step, put_test};
 use crate::draft::{Drafted, Version, cells_of, counter_of};
-use crate::expression::{put_expr, put_exprs};
-use crate::size::{stmt_size, turn_size};
-use crate::target::{Targets, behind, behind_if, counted};
+use crate::expression::{put_call, put_part};
+use crate::size::stmt_size;
+use crate::target::{Targets, behind_if, counted, places_of_else, places_of_region};
 use hx_check::resolved::{Clauses, Expr, LoopKind, Region, Stmt};
 use hx_code::table;
+use hx_code::table::Carried;
 use hx_code::word::Word;
 use std::alloc::{AllocError, Global};
 
@@ -31,45 +35,71 @@ pub(crate) fn put_stmt(
         Stmt::Block(inner) => put_stmts(alloc, draft, inner, version, to),
         Stmt::Simple(simple) => put_simple(draft, simple, version),
         Stmt::CallStatement(function, at, arguments) => {
-            let above = put_exprs(draft, arguments, version, 0)?;
-            draft.put(version, above, Word::Call(*function, *at))?;
-            draft.put(version, 1, Word::Drop)
+            put_call_statement(draft, arguments, version, Word::Call(*function, *at))
         }
-        Stmt::Print(at, e) => {
-            put_expr(draft, e, version, 0)?;
-            draft.put(version, 1, Word::Print(*at))
-        }
-        Stmt::Emit(at, e) => {
-            put_expr(draft, e, version, 0)?;
-            draft.put(version, 1, Word::Emit(*at))
-        }
+        Stmt::Print(at, e) => put_part(draft, e, version, 0, Word::Print(*at)),
+        Stmt::Emit(at, e) => put_part(draft, e, version, 0, Word::Emit(*at)),
         Stmt::If(test, inner) => {
             let exit = behind_if(draft.place(), test, inner)?;
-            put_expr(draft, test, version, 0)?;
-            draft.put(version, 1, Word::JumpFalse(exit))?;
-            put_stmt(alloc, draft, inner, version, to)
+            put_guarded(alloc, draft, inner, test, exit, version, to)
         }
         Stmt::IfElse(test, inner, other) => {
-            let other_at = behind(behind_if(draft.place(), test, inner)?, 1, 0)?;
-            let exit = behind(other_at, counted(stmt_size(other))?, 0)?;
-            put_expr(draft, test, version, 0)?;
-            draft.put(version, 1, Word::JumpFalse(other_at))?;
-            put_stmt(alloc, draft, inner, version, to)?;
-            draft.put(version, 0, Word::Jump(exit))?;
-            put_stmt(alloc, draft, other, version, to)
+            let (other_at, exit) = places_of_else(draft.place(), test, inner, other)?;
+            put_guarded(alloc, draft, inner, test, other_at, version, to)?;
+            put_else(alloc, draft, other, exit, version, to)
         }
-        Stmt::Loop(kind, clauses, body) => {
-            put_simples(draft, &clauses.init, version)?;
-            put_loop(alloc, draft, body, kind, clauses, version)
-        }
+        Stmt::Loop(kind, clauses, body) => put_loop(alloc, draft, body, kind, clauses, version),
         Stmt::DoWhile(body, test) => put_do(alloc, draft, body, test, version),
         Stmt::Break => draft.put(version, 0, Word::Jump(to.break_to())),
         Stmt::Continue => draft.put(version, 0, Word::Jump(to.continue_to())),
-        Stmt::Return(e) => {
-            put_expr(draft, e, version, 0)?;
-            draft.put(version, 1, Word::Ret)
-        }
+        Stmt::Return(e) => put_part(draft, e, version, 0, Word::Ret),
     }
+}
+
+// A call whose value is dropped.
+fn put_call_statement(
+    draft: &mut Drafted,
+    arguments: &[Expr],
+    version: &Version<'_>,
+    call: Word,
+) -> Result<(), AllocError>
+    ensures { OnOk result (draft.new ≡ with_lines draft.old (lines.put version.now 1 Dropped (lines.put version.now (length arguments.now) call (lines.exprs_lines (exprs (map resolved_expr arguments.now)) version.now 0 draft.old.lines)))) }
+{
+    put_call(draft, arguments, version, 0, call)?;
+    draft.put(version, 1, Word::Drop)
+}
+
+// A test, which jumps to a place where it is 0, and the statement that it guards.
+#[cycle(statements)]
+fn put_guarded(
+    alloc: Global,
+    draft: &mut Drafted,
+    inner: &Stmt,
+    test: &Expr,
+    exit: u32,
+    version: &Version<'_>,
+    to: &Targets,
+) -> Result<(), AllocError>
+    ensures { OnOk result (draft.new ≡ stmt_draft (resolved_stmt inner.now) version.now to.now (with_lines draft.old (lines.put version.now 1 (JumpFalse exit) (lines.expr_lines (resolved_expr test.now) version.now 0 draft.old.lines)))) }
+{
+    put_part(draft, test, version, 0, Word::JumpFalse(exit))?;
+    put_stmt(alloc, draft, inner, version, to)
+}
+
+// The jump over the other statement of an `if`, and that statement.
+#[cycle(statements)]
+fn put_else(
+    alloc: Global,
+    draft: &mut Drafted,
+    other: &Stmt,
+    exit: u32,
+    version: &Version<'_>,
+    to: &Targets,
+) -> Result<(), AllocError>
+    ensures { OnOk result (draft.new ≡ stmt_draft (resolved_stmt other.now) version.now to.now (put_word version.now 0 (Jump exit) draft.old)) }
+{
+    draft.put(version, 0, Word::Jump(exit))?;
+    put_stmt(alloc, draft, other, version, to)
 }
 
 /// Puts the words of statements.
@@ -103,11 +133,10 @@ fn put_do(
     let start = draft.place();
     let to = Targets::of_do(test, counted(stmt_size(body))?, start)?;
     put_stmt(alloc, draft, body, version, &to)?;
-    put_expr(draft, test, version, 0)?;
-    draft.put(version, 1, Word::JumpTrue(start))
+    put_part(draft, test, version, 0, Word::JumpTrue(start))
 }
 
-// A loop behind what stands before it.
+// A loop, and what stands before it.
 #[cycle(statements)]
 fn put_loop(
     alloc: Global,
@@ -117,8 +146,9 @@ fn put_loop(
     clauses: &Clauses,
     version: &Version<'_>,
 ) -> Result<(), AllocError>
-    ensures { OnOk result (draft.new ≡ loop_draft (resolved_kind kind.now) (resolved_clauses clauses.now) (size.stmt_size (resolved_stmt body.now)) (λ v to d. stmt_draft (resolved_stmt body.now) v to d) version.now draft.old) }
+    ensures { let c = resolved_clauses clauses.now in OnOk result (draft.new ≡ loop_draft (resolved_kind kind.now) c (size.stmt_size (resolved_stmt body.now)) (λ v to d. stmt_draft (resolved_stmt body.now) v to d) version.now (with_lines draft.old (lines.simples_lines c.init version.now draft.old.lines))) }
 {
+    put_simples(draft, &clauses.init, version)?;
     match kind {
         LoopKind::Plain => put_plain(alloc, draft, body, clauses, version),
         LoopKind::Region(region) => put_region(alloc, draft, body, region, clauses, version),
@@ -139,15 +169,30 @@ fn put_region(
     ensures { OnOk result (draft.new ≡ region_draft (resolved_region region.now) (resolved_clauses clauses.now) (size.stmt_size (resolved_stmt body.now)) (λ v to d. stmt_draft (resolved_stmt body.now) v to d) version.now draft.old) }
 {
     let number = draft.region_count()?;
-    let turn = counted(turn_size(clauses, counted(stmt_size(body))?))?;
-    let start = behind(draft.place(), 1, 0)?;
-    let plain = behind(start, turn, 2)?;
-    let exit = behind(plain, turn, 1)?;
+    let (start, plain, exit) = places_of_region(draft.place(), clauses, body)?;
     draft.put(version, 0, Word::Enter(number, plain))?;
     let cells = cells_of(alloc, &region.carried)?;
-    let inside = version.of_region(number, &cells);
-    put_turns(alloc, draft, body, clauses, &inside)?;
+    put_turns(
+        alloc,
+        draft,
+        body,
+        clauses,
+        &version.of_region(number, &cells),
+    )?;
     put_plain(alloc, draft, body, clauses, version)?;
+    put_row(draft, region, cells, start, exit)
+}
+
+// What is told of a region that begins and ends at these places, with the cells of the words that it carries.
+fn put_row(
+    draft: &mut Drafted,
+    region: &Region,
+    cells: Vec<Carried>,
+    start: u32,
+    exit: u32,
+) -> Result<(), AllocError>
+    ensures { let r = resolved_region region.now in let row : RegionView = record { start = start; exit = exit; carried = cells.items; copied = r.copied; induct = option_map counter r.induct } in OnOk result (draft.new ≡ record draft.old { regions = draft.old.regions ++ row ∷ [] }) }
+{
     let copied = region.copied.clone()?;
     draft.put_region(table::Region {
         start,

@@ -106,3 +106,32 @@ pub(crate) fn behind_if(place: u32, test: &Expr, inner: &Stmt) -> Result<u32, Al
     let second = counted(stmt_size(inner))?;
     behind(behind(place, first, 1)?, second, 0)
 }
+
+/// Where the other statement of an `if` that begins at a place stands, and the place behind it.
+pub(crate) fn places_of_else(
+    place: u32,
+    test: &Expr,
+    inner: &Stmt,
+    other: &Stmt,
+) -> Result<(u32, u32), AllocError>
+    ensures { let at = place + size.expr_size (resolved_expr test.now) + 1 + size.stmt_size (resolved_stmt inner.now) + 1 in IfOk result (λ places. (places.0 ≡ at) × (places.1 ≡ at + size.stmt_size (resolved_stmt other.now))) }
+{
+    let other_at = behind(behind_if(place, test, inner)?, 1, 0)?;
+    let exit = behind(other_at, counted(stmt_size(other))?, 0)?;
+    Ok((other_at, exit))
+}
+
+/// Where the version of a region whose first word stands at a place begins, where the plain loop does, and the place behind it.
+pub(crate) fn places_of_region(
+    place: u32,
+    clauses: &Clauses,
+    body: &Stmt,
+) -> Result<(u32, u32, u32), AllocError>
+    ensures { let turn = size.turn_size (resolved_clauses clauses.now) (size.stmt_size (resolved_stmt body.now)) in IfOk result (λ places. (places.0 ≡ place + 1) × (places.1 ≡ place + 1 + (turn + 2)) × (places.2 ≡ place + 1 + (turn + 2) + (turn + 1))) }
+{
+    let turn = counted(turn_size(clauses, counted(stmt_size(body))?))?;
+    let start = behind(place, 1, 0)?;
+    let plain = behind(start, turn, 2)?;
+    let exit = behind(plain, turn, 1)?;
+    Ok((start, plain, exit))
+}
