@@ -12,9 +12,9 @@ use std::{fs, io};
 // What a command wrote, and its status.
 #[derive(Drop)]
 pub(crate) struct Shown {
-    out: Vec<u8>,
-    err: Vec<u8>,
-    status: u8,
+    pub out: Vec<u8>,
+    pub err: Vec<u8>,
+    pub status: u8,
 }
 
 pub(crate) fn done_by<R: Files + AllocGlobal + Threads + Wait + Sync>(
