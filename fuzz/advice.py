@@ -1,7 +1,7 @@
 #!/usr/bin/env python3
 """Whether what `hydra advise` calls independent repeats nothing.
 
-    fuzz/advice.py                     every program of examples/ and forms/, and those of hydra's tests of advice
+    fuzz/advice.py                     every program of examples/ and forms/, and those of the tests of advice
     fuzz/advice.py FILE..              these
     fuzz/advice.py --schedules 50      so many random schedules for each time that a loop is opened
     fuzz/advice.py --hydra PROGRAM     another program than crates/hydra/out/hydra
@@ -27,7 +27,7 @@ HEADING = re.compile(r"region (\d+) in (\w+), line (\d+): (?:opened (\d+) times?
 STEPS = "2000000"
 
 # The programs of these tests, whose verdicts were found by hand.
-TESTS = os.path.join("crates", "hydra", "src", "tests", "advising.rt")
+TESTS = os.path.join("crates", "hx_tests_commands", "src", "advising.rt")
 
 TESTED = re.compile(r'says\(\s*&rt,\s*b"((?:[^"\\]|\\.)*)"', re.DOTALL)
 
