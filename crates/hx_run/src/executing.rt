@@ -1,11 +1,12 @@
 // A source that is read, run and told of.
 
 ghost use Rattle.std.specs.Prelude.{◌≡◌, ◌↔◌, ◌+◌, ◌-◌, ◌^◌, ◌<◌, IfOk, IfErr, IsErrOf};
+ghost use Rattle.hx_run.specs.Headline.{AreInRange};
 ghost use Rattle.hx_run.specs.Executions.{failed_reads, failed_writes, IsDone, Refuses, RefusesSettings};
 
 use crate::reading::read_source;
 use crate::refusal::Refusal;
-use crate::running::{PlainRan, are_in_range, run_in_range, run_plain};
+use crate::running::{PlainRan, are_in_range, run, run_plain};
 use crate::showing::{Tail, show};
 use hx_device::{ByteSink, ByteSource};
 use hx_pool::Gate;
@@ -67,6 +68,7 @@ fn execute_run<R: Threads + Wait + Sync, S: ByteSource, K: ByteSink, G: Gate>(
     tail: Tail,
     gate: &G,
 ) -> Result<Done, Refusal>
+    requires range { AreInRange settings }
     requires source { S.failures source.old < 2 ^ 64 - 1 }
     requires out { K.failures out.old < 2 ^ 64 - 1 }
     ensures done { IfOk result (IsDone (Mode.Run tail) input.now (S.rest source.old) (S.rest source.new) (K.written out.old) (K.written out.new)) }
@@ -76,7 +78,7 @@ fn execute_run<R: Threads + Wait + Sync, S: ByteSource, K: ByteSink, G: Gate>(
     ensures writes { K.failures out.new ≡ K.failures out.old + failed_writes result }
 {
     let bytes = read_source(alloc, source)?;
-    let finish = run_in_range(alloc, rt, bytes.as_slice(), input, settings, None, gate)?;
+    let finish = run(alloc, rt, bytes.as_slice(), input, settings, gate)?;
     show(alloc, bytes.as_slice(), &finish, tail, out)
 }
 

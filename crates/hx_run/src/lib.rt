@@ -10,14 +10,12 @@ mod refusal;
 mod running;
 mod showing;
 mod source;
-#[cfg(test)]
-mod tests;
 
 pub use executing::{Done, Mode, execute, execute_plain};
 pub use hx_pool::{Call, Gate, Point, Unwatched};
 pub use inputs::parse_input;
 pub use reading::read_source;
 pub use refusal::Refusal;
-pub use running::{PlainRan, are_in_range, run, run_plain};
+pub use running::{PlainRan, are_in_range, run, run_on, run_plain};
 pub use showing::Tail;
 pub use source::{compile, executable_of, parse_source};

@@ -318,14 +318,32 @@ pub fn run<R: Threads + Wait + Sync, G: Gate>(
     ensures settings { IsErrOf result Refusal.Settings ↔ (AreInRange settings → ⊥) }
     ensures refused { IfErr result (λ e. (e ≡ Refusal.Settings) ⊎ RefusesRun source.now input.now e) }
 {
+    run_on(alloc, rt, source, input, settings, None, gate)
+}
+
+/// `run` with stacks of so many bytes for the threads that it starts. No thread has a stack that is too large, so then the caller
+/// alone runs the program.
+pub fn run_on<R: Threads + Wait + Sync, G: Gate>(
+    alloc: Global,
+    rt: &R,
+    source: &[u8],
+    input: &[i32],
+    settings: Settings,
+    stack: Option<usize>,
+    gate: &G,
+) -> Result<Finish, Refusal>
+    ensures finish { IfOk result (IsFinishOf source.now input.now) }
+    ensures settings { IsErrOf result Refusal.Settings ↔ (AreInRange settings → ⊥) }
+    ensures refused { IfErr result (λ e. (e ≡ Refusal.Settings) ⊎ RefusesRun source.now input.now e) }
+{
     if !are_in_range(settings) {
         return Err(Refusal::Settings);
     }
-    run_in_range(alloc, rt, source, input, settings, None, gate)
+    run_in_range(alloc, rt, source, input, settings, stack, gate)
 }
 
-/// `run`, where the settings were tested, with stacks of so many bytes for its threads, where that is told.
-pub(crate) fn run_in_range<R: Threads + Wait + Sync, G: Gate>(
+// `run_on`, where the settings were tested.
+fn run_in_range<R: Threads + Wait + Sync, G: Gate>(
     alloc: Global,
     rt: &R,
     source: &[u8],

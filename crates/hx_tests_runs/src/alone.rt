@@ -1,7 +1,6 @@
 // Worked programs where no thread starts: the caller does all iterations.
 
-use crate::Unwatched;
-use crate::running::run_in_range;
+use hx_run::{Unwatched, run_on};
 use hx_tree::outcome::{End, Fault, FaultKind, Finish, Settings};
 use hx_tree::token::Pos;
 use std::alloc::Global;
@@ -46,7 +45,7 @@ fn all_hold_alone<R: Abort + Threads + Wait + Sync>(rt: &R, alloc: Global, rows:
         buffer: 64,
     };
     for row in rows {
-        match run_in_range(
+        match run_on(
             alloc,
             rt,
             row.source,
