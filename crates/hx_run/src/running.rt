@@ -321,8 +321,8 @@ pub fn run<R: Threads + Wait + Sync, G: Gate>(
     run_on(alloc, rt, source, input, settings, None, gate)
 }
 
-/// `run` with stacks of so many bytes for the threads that it starts. No thread has a stack that is too large, so then the caller
-/// alone runs the program.
+/// `run` with stacks of so many bytes for the threads that it starts, or as large as is usual. No thread has a stack that is too
+/// large, so then the caller alone runs the program. Refusals are those of `run`.
 pub fn run_on<R: Threads + Wait + Sync, G: Gate>(
     alloc: Global,
     rt: &R,
