@@ -1,7 +1,7 @@
 // A source that is read, run and told of.
 
 ghost use Rattle.std.specs.Prelude.{◌≡◌, ◌↔◌, ◌+◌, ◌-◌, ◌^◌, ◌<◌, IfOk, IfErr, IsErrOf};
-ghost use Rattle.hx_run.specs.Headline.{AreInRange};
+ghost use Rattle.hx_run.specs.Headline.{AreInRange, IsFinishOf, RefusesRun};
 ghost use Rattle.hx_run.specs.Executions.{failed_reads, failed_writes, IsDone, Refuses, RefusesSettings};
 
 use crate::reading::read_source;
@@ -10,7 +10,7 @@ use crate::running::{PlainRan, are_in_range, run, run_plain};
 use crate::showing::{Tail, show};
 use hx_device::{ByteSink, ByteSource};
 use hx_pool::Gate;
-use hx_tree::outcome::{End, Settings};
+use hx_tree::outcome::{End, Finish, Settings};
 use std::alloc::Global;
 use std::sync::Wait;
 use std::thread::Threads;
@@ -57,6 +57,22 @@ pub fn execute_plain<S: ByteSource, K: ByteSink>(
     }
 }
 
+// `run` with settings in range: what is refused is the source or the input, or memory is wanting.
+fn finish_of<R: Threads + Wait + Sync, G: Gate>(
+    alloc: Global,
+    rt: &R,
+    source: &[u8],
+    input: &[i32],
+    settings: Settings,
+    gate: &G,
+) -> Result<Finish, Refusal>
+    requires { AreInRange settings }
+    ensures finish { IfOk result (IsFinishOf source.now input.now) }
+    ensures refused { IfErr result (RefusesRun source.now input.now) }
+{
+    run(alloc, rt, source, input, settings, gate)
+}
+
 // `execute` in mode `Run`, with settings in range.
 fn execute_run<R: Threads + Wait + Sync, S: ByteSource, K: ByteSink, G: Gate>(
     alloc: Global,
@@ -78,7 +94,7 @@ fn execute_run<R: Threads + Wait + Sync, S: ByteSource, K: ByteSink, G: Gate>(
     ensures writes { K.failures out.new ≡ K.failures out.old + failed_writes result }
 {
     let bytes = read_source(alloc, source)?;
-    let finish = run(alloc, rt, bytes.as_slice(), input, settings, gate)?;
+    let finish = finish_of(alloc, rt, bytes.as_slice(), input, settings, gate)?;
     show(alloc, bytes.as_slice(), &finish, tail, out)
 }
 
