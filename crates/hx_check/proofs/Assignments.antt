@@ -11,10 +11,10 @@ use Rattle.hx_tree.specs.World.{Map, look_up}
 use Rattle.hx_tree.specs.Accepted.{Surroundings, AcceptsExpr, AcceptsPlace, AcceptsAssignment, AcceptsLocals, AcceptsInit, AcceptsReturn, IfThere, IsNew, with_name, with_local, with_locals, after_init, init_locals}
 use Rattle.hx_check.specs.declared.error.CheckError.{CheckError}
 use Rattle.hx_check.specs.declared.here.Here.{Here}
-use Rattle.hx_check.specs.declared.symbol.Symbol.{Symbol}
-use Rattle.hx_check.specs.Resolved.{Expr, Place, Assignment, Simple, Declare, Assign}
-use Rattle.hx_check.specs.Symbols.{Known, Scopes, private_word, with_word, with_words, words_after_init, is_in_scope}
-use Rattle.hx_check.specs.Resolve.{resolve_expr, resolve_place, resolve_assignment, resolve_locals, resolve_init, expr_or_zero}
+use Rattle.hx_resolved.specs.declared.symbol.Symbol.{Symbol}
+use Rattle.hx_resolved.specs.Resolved.{Expr, Place, Assignment, Simple, Declare, Assign}
+use Rattle.hx_resolved.specs.Symbols.{Known, Scopes, private_word, with_word, with_words, words_after_init, is_in_scope}
+use Rattle.hx_resolved.specs.Resolve.{resolve_expr, resolve_place, resolve_assignment, resolve_locals, resolve_init, expr_or_zero}
 use Rattle.hx_check.specs.Reading.{unless, check_expr, check_place, check_assignment, check_or_zero, check_test, check_step, check_array, check_new, declare, check_locals, check_init, check_return}
 use Rattle.hx_check.proofs.Steps.{bind_ok, bind_at, if_at, else_ok, else_at, same_ok}
 use Rattle.hx_check.proofs.WhatIsNamed.{surroundings, kinds, texts, is_among_is, kind_is, int_written, int_known, array_at, array_known}

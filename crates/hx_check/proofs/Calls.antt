@@ -13,10 +13,10 @@ use Rattle.hx_tree.specs.declared.tree.Part as code_part
 use Rattle.hx_tree.specs.declared.tree.Stmt as code_stmt
 use Rattle.hx_tree.specs.declared.tree.Stmt.TheVariants as stmt
 use Rattle.hx_tree.proofs.View.{call_is, block_is}
-use Rattle.hx_check.specs.declared.symbol.Symbol.{Symbol}
-use Rattle.hx_check.specs.Resolved.{Call, exprs, CallStatement}
-use Rattle.hx_check.specs.Symbols.{Known, Scopes}
-use Rattle.hx_check.specs.Counts.{step_counts}
+use Rattle.hx_resolved.specs.declared.symbol.Symbol.{Symbol}
+use Rattle.hx_resolved.specs.Resolved.{Call, exprs, CallStatement}
+use Rattle.hx_resolved.specs.Symbols.{Known, Scopes}
+use Rattle.hx_resolved.specs.Counts.{step_counts}
 use Rattle.hx_check.specs.Reading.{Checks, ◌>>=◌, check_expr, check_exprs, check_callee, check_test, check_step, check_init, check_clauses, check_stmt, in_scope, out_of_scope, inside, make_loop}
 use Rattle.hx_check.specs.declared.here.Here.{Here}
 

@@ -7,10 +7,10 @@ use Rattle.hx_tree.specs.Tree as tree
 use Rattle.hx_tree.specs.World.{Map, look_up}
 use Rattle.hx_tree.specs.Accepted.{AcceptsExpr, AcceptsExprs, count}
 use Rattle.hx_check.specs.declared.here.Here.{Here}
-use Rattle.hx_check.specs.declared.symbol.Symbol.{Symbol}
-use Rattle.hx_check.specs.Resolved.{Expr, Call, Exprs, no_exprs, expr_and, exprs}
-use Rattle.hx_check.specs.Symbols.{Scopes, private_word}
-use Rattle.hx_check.specs.Resolve.{resolve_expr, resolve_exprs, function_at}
+use Rattle.hx_resolved.specs.declared.symbol.Symbol.{Symbol}
+use Rattle.hx_resolved.specs.Resolved.{Expr, Call, Exprs, no_exprs, expr_and, exprs}
+use Rattle.hx_resolved.specs.Symbols.{Scopes, private_word}
+use Rattle.hx_resolved.specs.Resolve.{resolve_expr, resolve_exprs, function_at}
 use Rattle.hx_check.specs.Reading.{check_expr, check_exprs, check_array, check_callee}
 use Rattle.hx_check.proofs.Steps.{bind_ok, bind_at, if_ok, if_at}
 use Rattle.hx_check.proofs.WhatIsNamed.{surroundings, kind_is, int_read, int_known, array_at, array_known, value_at, value_known}

@@ -11,10 +11,10 @@ use Rattle.hx_tree.specs.Accepted.{Surroundings, AcceptsParts, AcceptsFunction, 
 use Rattle.hx_check.specs.declared.error.CheckError.{CheckError}
 use Rattle.hx_check.specs.declared.error.CheckError.TheVariants.{LimitPassed}
 use Rattle.hx_check.specs.declared.here.Here.{Here}
-use Rattle.hx_check.specs.declared.symbol.Symbol.{Symbol}
-use Rattle.hx_check.specs.Resolved.{Function}
-use Rattle.hx_check.specs.Symbols.{Scopes, numbered}
-use Rattle.hx_check.specs.Resolve.{resolve_function, resolve_parts}
+use Rattle.hx_resolved.specs.declared.symbol.Symbol.{Symbol}
+use Rattle.hx_resolved.specs.Resolved.{Function}
+use Rattle.hx_resolved.specs.Symbols.{Scopes, numbered}
+use Rattle.hx_resolved.specs.Resolve.{resolve_function, resolve_parts}
 use Rattle.hx_check.specs.Reading.{limited, check_distinct, check_parts, check_function, with_parameters}
 use Rattle.hx_check.proofs.Steps.{bind_ok, bind_at, if_ok, if_at, same_ok}
 use Rattle.hx_check.proofs.WhatIsNamed.{surroundings, kinds, texts_in}

@@ -13,9 +13,9 @@ use Rattle.hx_tree.specs.World.{Map, look_up}
 use Rattle.hx_tree.specs.Meaning.{item_functions}
 use Rattle.hx_tree.specs.Accepted.{Kind, kind_of_shape, item_kinds, is_among, shape_words, item_words, AcceptsConstant, AcceptsShape}
 use Rattle.hx_check.specs.declared.error.CheckError.TheVariants.{LimitPassed}
-use Rattle.hx_check.specs.declared.symbol.Symbol.{Symbol}
-use Rattle.hx_check.specs.declared.symbol.Symbol.TheVariants as symbol
-use Rattle.hx_check.specs.Symbols.{Declared, symbol_at, global_symbols, item_symbols, items_symbols}
+use Rattle.hx_resolved.specs.declared.symbol.Symbol.{Symbol}
+use Rattle.hx_resolved.specs.declared.symbol.Symbol.TheVariants as symbol
+use Rattle.hx_resolved.specs.Symbols.{Declared, symbol_at, global_symbols, item_symbols, items_symbols}
 use Rattle.hx_check.specs.Reading.{unless, check_free, constants_fit, shape_fits, declare_global, declare_globals, declare_item, declare_items}
 use Rattle.hx_check.proofs.Steps.{bind_ok, bind_at, else_ok, else_at, same_ok}
 use Rattle.hx_check.proofs.WhatIsNamed.{kind_of_symbol, kinds}

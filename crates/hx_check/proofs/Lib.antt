@@ -4,11 +4,9 @@ mod Expressions
 mod Assignments
 mod Statements
 mod Tables
-mod Nodes
 mod Distinct
 mod Functions
 mod Items
 mod Programs
 mod Calls
 mod Needs
-mod Filters

@@ -20,11 +20,11 @@ use Rattle.hx_check.specs.declared.error.CheckError.TheVariants as error
 use Rattle.hx_check.specs.declared.error.CheckError.TheVariants.{NoMain, TooLarge}
 use Rattle.hx_check.specs.Opening.{GlobalsFit}
 use Rattle.hx_check.specs.Refusals.{Refuses}
-use Rattle.hx_check.specs.declared.symbol.Symbol.{Symbol}
-use Rattle.hx_check.specs.declared.symbol.Symbol.TheVariants as symbol
-use Rattle.hx_check.specs.Resolved.{Function, Program}
-use Rattle.hx_check.specs.Symbols.{Declared, symbols_of}
-use Rattle.hx_check.specs.Resolve.{or_else, function_number, resolve, resolve_function}
+use Rattle.hx_resolved.specs.declared.symbol.Symbol.{Symbol}
+use Rattle.hx_resolved.specs.declared.symbol.Symbol.TheVariants as symbol
+use Rattle.hx_resolved.specs.Resolved.{Function, Program}
+use Rattle.hx_resolved.specs.Symbols.{Declared, symbols_of}
+use Rattle.hx_resolved.specs.Resolve.{or_else, function_number, resolve, resolve_function}
 use Rattle.hx_check.specs.Reading.{IsFault, unless, declare_items, nothing_declared, main_of, check_main, check_functions, check_function, check_program}
 use Rattle.hx_check.proofs.Steps.{bind_ok, bind_at, if_ok, if_at, same_ok}
 use Rattle.hx_check.proofs.WhatIsNamed.{kind_of_symbol, kinds, look_up_kinds}

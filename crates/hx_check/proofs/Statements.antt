@@ -6,10 +6,10 @@ use Rattle.hx_tree.specs.Tree as tree
 use Rattle.hx_tree.specs.World.{Map, look_up}
 use Rattle.hx_tree.specs.Accepted.{Surroundings, AcceptsExpr, AcceptsAssignment, AcceptsStmt, AcceptsPart, AcceptsParts, IfThere, count, after_init, after_part, inside_loop, init_locals, stmt_locals, part_locals, parts_locals}
 use Rattle.hx_check.specs.declared.here.Here.{Here}
-use Rattle.hx_check.specs.declared.symbol.Symbol.{Symbol}
-use Rattle.hx_check.specs.Resolved.{Simple, Assign, Stmt, Block, Do, CallStatement, Print, Emit, IfElse, Break, Continue, Return, Stmts, no_stmts, stmt_and, stmts}
-use Rattle.hx_check.specs.Symbols.{Known, Scopes, private_word, with_word, with_words, words_after_init}
-use Rattle.hx_check.specs.Resolve.{Around, resolve_expr, resolve_exprs, resolve_assignment, resolve_locals, resolve_stmt, resolve_part_then, resolve_parts, simples_then, words_after_part, function_at, expr_or_zero}
+use Rattle.hx_resolved.specs.declared.symbol.Symbol.{Symbol}
+use Rattle.hx_resolved.specs.Resolved.{Simple, Assign, Stmt, Block, Do, CallStatement, Print, Emit, IfElse, Break, Continue, Return, Stmts, no_stmts, stmt_and, stmts}
+use Rattle.hx_resolved.specs.Symbols.{Known, Scopes, private_word, with_word, with_words, words_after_init}
+use Rattle.hx_resolved.specs.Resolve.{Around, resolve_expr, resolve_exprs, resolve_assignment, resolve_locals, resolve_stmt, resolve_part_then, resolve_parts, simples_then, words_after_part, function_at, expr_or_zero}
 use Rattle.hx_check.specs.Reading as reading
 use Rattle.hx_check.specs.Reading.{Checks, ◌>>=◌, unless, check_expr, check_exprs, check_assignment, check_test, check_step, check_callee, check_locals, check_init, check_return, check_stmt, check_part, check_parts, in_scope, out_of_scope, make_loop}
 use Rattle.hx_check.specs.declared.error.CheckError.TheVariants.{OutsideLoop}

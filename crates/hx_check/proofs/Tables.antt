@@ -10,7 +10,7 @@ use Rattle.std.proofs.lemmas.Bool.Decides.{same_from_decides, Decides-like}
 use Rattle.indexmap.specs.IndexMap.{IndexMap, get, insert_entry}
 use Rattle.indexmap.proofs.CallerLemmas.{insert_entry-new}
 use Rattle.hx_tree.specs.World.{look_up}
-use Rattle.hx_check.specs.declared.symbol.Symbol.{Symbol}
+use Rattle.hx_resolved.specs.declared.symbol.Symbol.{Symbol}
 use Rattle.hx_check.specs.Views.{pair_of}
 
 pub bytes_eq-sym : (x y : List ℕ) → bytes_eq x y ≡ bytes_eq y x

@@ -8,11 +8,11 @@ use Rattle.hx_tree.specs.Tree as tree
 use Rattle.hx_tree.specs.World.{Map, look_up, first_of}
 use Rattle.hx_tree.specs.Accepted.{Kind, IntKind, ArrayKind, FunctionKind, Surroundings, is_among, is_local, kind_of}
 use Rattle.hx_check.specs.declared.here.Here.{Here}
-use Rattle.hx_check.specs.declared.symbol.Symbol.{Symbol}
-use Rattle.hx_check.specs.declared.symbol.Symbol.TheVariants as symbol
-use Rattle.hx_check.specs.declared.resolved.Words.{Words}
-use Rattle.hx_check.specs.Symbols.{Scopes, private_word}
-use Rattle.hx_check.specs.Resolve.{variable, to_variable, or_else, int_word, array_words, function_number, no_words}
+use Rattle.hx_resolved.specs.declared.symbol.Symbol.{Symbol}
+use Rattle.hx_resolved.specs.declared.symbol.Symbol.TheVariants as symbol
+use Rattle.hx_resolved.specs.declared.program.Words.{Words}
+use Rattle.hx_resolved.specs.Symbols.{Scopes, private_word}
+use Rattle.hx_resolved.specs.Resolve.{variable, to_variable, or_else, int_word, array_words, function_number, no_words}
 use Rattle.hx_check.specs.Reading.{◌>>=◌, int_named, array_named, function_named, called_with, gives_value, read, write}
 use Rattle.hx_check.proofs.Steps.{if_ok, if_at}
 

@@ -1,11 +1,5 @@
-pub mod Resolved
 pub mod Views
-pub mod Carried
-pub mod Symbols
-pub mod Counts
-pub mod Resolve
 pub mod Measures
 pub mod Refusals
 pub mod Opening
 pub mod Reading
-pub mod Rows

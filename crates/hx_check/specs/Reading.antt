@@ -19,13 +19,13 @@ use Rattle.hx_check.specs.declared.error.CheckError.TheVariants.{UnknownName, Do
 use Rattle.hx_check.specs.declared.here.Here.{Here}
 use Rattle.hx_check.specs.declared.names.Variable.{Variable}
 use Rattle.hx_check.specs.declared.names.Variable.TheVariants as variable
-use Rattle.hx_check.specs.declared.resolved.Words.{Words}
-use Rattle.hx_check.specs.declared.symbol.Symbol.{Symbol}
-use Rattle.hx_check.specs.declared.symbol.Symbol.TheVariants as symbol
-use Rattle.hx_check.specs.Resolved.{Expr, Number, Private, Word, Element, Call, Unary, Binary, Conditional, exprs, Place, ToPrivate, ToWord, ToElement, Assignment, Set, Update, Simple, Declare, Assign, Clauses, Stmt, Block, Do, CallStatement, Print, Emit, If, IfElse, Loop, DoWhile, Break, Continue, Return, no_stmts, stmts, Function, Program}
-use Rattle.hx_check.specs.Symbols.{Declared, Known, Scopes, private_word, with_word, symbol_at, is_in_scope, numbered}
-use Rattle.hx_check.specs.Counts.{step_counts}
-use Rattle.hx_check.specs.Resolve.{int_word, array_words, kind_if, while_clauses}
+use Rattle.hx_resolved.specs.declared.program.Words.{Words}
+use Rattle.hx_resolved.specs.declared.symbol.Symbol.{Symbol}
+use Rattle.hx_resolved.specs.declared.symbol.Symbol.TheVariants as symbol
+use Rattle.hx_resolved.specs.Resolved.{Expr, Number, Private, Word, Element, Call, Unary, Binary, Conditional, exprs, Place, ToPrivate, ToWord, ToElement, Assignment, Set, Update, Simple, Declare, Assign, Clauses, Stmt, Block, Do, CallStatement, Print, Emit, If, IfElse, Loop, DoWhile, Break, Continue, Return, no_stmts, stmts, Function, Program}
+use Rattle.hx_resolved.specs.Symbols.{Declared, Known, Scopes, private_word, with_word, symbol_at, is_in_scope, numbered}
+use Rattle.hx_resolved.specs.Counts.{step_counts}
+use Rattle.hx_resolved.specs.Resolve.{int_word, array_words, kind_if, while_clauses}
 
 -- ---- one check after another
 

@@ -3,10 +3,10 @@
 ghost use Rattle.std.specs.Prelude.{◌≡◌};
 ghost use Rattle.hx_tree.specs.View.{program_of};
 ghost use Rattle.hx_tree.specs.Accepted.{IsAccepted};
-ghost use Rattle.hx_check.specs.Views.{resolved_of};
-ghost use Rattle.hx_check.specs.Resolve.{resolve};
+ghost use Rattle.hx_resolved.specs.Views.{resolved_of};
+ghost use Rattle.hx_resolved.specs.Resolve.{resolve};
 
-use crate::resolved::Program;
+use hx_resolved::program::Program;
 use hx_tree::tree;
 use std::marker::Model;
 
@@ -32,8 +32,8 @@ impl Model for Checked {
 
     ghost use Rattle.hx_tree.specs.View.{program_of};
     ghost use Rattle.hx_tree.specs.Accepted.{IsAccepted};
-    ghost use Rattle.hx_check.specs.Views.{resolved_of};
-    ghost use Rattle.hx_check.specs.Resolve.{resolve};
+    ghost use Rattle.hx_resolved.specs.Views.{resolved_of};
+    ghost use Rattle.hx_resolved.specs.Resolve.{resolve};
 
     ghost view = { λ c. c.tree };
 

@@ -2,11 +2,11 @@
 
 ghost use Rattle.std.specs.Prelude.{◌≡◌, option_map};
 ghost use Rattle.hx_tree.specs.View.{expr_of, place_of, assignment_of};
-ghost use Rattle.hx_check.specs.Counts as counts;
+ghost use Rattle.hx_resolved.specs.Counts as counts;
 ghost use Rattle.hx_check.specs.Views.{scopes_of};
 
 use crate::locals::{Scopes, private_word};
-use crate::resolved::Induct;
+use hx_resolved::program::Induct;
 use hx_tree::limits::CONSTANT_LIMIT;
 use hx_tree::tree;
 use hx_tree::tree::Operator;

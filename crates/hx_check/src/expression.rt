@@ -3,14 +3,15 @@
 ghost use Rattle.std.specs.Prelude.{◌≡◌, [], map, option_map};
 ghost use Rattle.hx_tree.specs.Tree.{exprs};
 ghost use Rattle.hx_tree.specs.View.{expr_of, place_of, assignment_of};
-ghost use Rattle.hx_check.specs.Views.{symbols_in, scopes_of, resolved_expr, resolved_place, resolved_assignment, resolved_exprs_in};
+ghost use Rattle.hx_resolved.specs.Views.{resolved_expr, resolved_place, resolved_assignment, resolved_exprs_in};
+ghost use Rattle.hx_check.specs.Views.{symbols_in, scopes_of};
 ghost use Rattle.hx_check.specs.Reading.{IsReading, check_expr, check_exprs, check_place, check_assignment, check_or_zero, check_test, check_step};
 
 use crate::error::CheckError;
 use crate::locals::Scopes;
 use crate::make::call;
 use crate::names::{array_named, function_named, int_named};
-use crate::resolved::{Assignment, Expr, Place};
+use hx_resolved::program::{Assignment, Expr, Place};
 use crate::table::Symbols;
 use hx_tree::limits::CONSTANT_LIMIT;
 use hx_tree::token::Pos;

@@ -2,7 +2,6 @@
 //! each name resolved to what it stands for.
 #![tactic(auto)]
 
-mod carried;
 pub mod check;
 pub mod checked;
 mod counter;
@@ -18,7 +17,5 @@ mod names;
 mod need;
 mod opening;
 mod privates;
-pub mod resolved;
 mod statement;
-pub mod symbol;
 mod table;

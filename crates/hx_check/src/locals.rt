@@ -3,7 +3,7 @@
 ghost use Rattle.std.specs.Prelude.{◌≡◌, ◌+◌, OnOk, IfOk, IsTrue, ◌↔◌, [], ◌∷◌, map};
 ghost use Rattle.hx_tree.specs.World.{look_up};
 ghost use Rattle.hx_tree.specs.View.{name_of};
-ghost use Rattle.hx_check.specs.Symbols.{private_word, with_word, is_in_scope};
+ghost use Rattle.hx_resolved.specs.Symbols.{private_word, with_word, is_in_scope};
 ghost use Rattle.hx_check.specs.Views.{scope_of, scopes_of, known_of};
 ghost use Rattle.hx_check.specs.Reading.{IsReading, IsReadingNow, same, check_new, declare, in_scope, out_of_scope};
 

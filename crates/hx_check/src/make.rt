@@ -1,10 +1,10 @@
 // The resolved nodes that hold a list of nodes, made from it.
 
 ghost use Rattle.std.specs.Prelude.{◌≡◌, map};
-ghost use Rattle.hx_check.specs.Resolved as resolved;
-ghost use Rattle.hx_check.specs.Views.{resolved_expr, resolved_stmt};
+ghost use Rattle.hx_resolved.specs.Resolved as resolved;
+ghost use Rattle.hx_resolved.specs.Views.{resolved_expr, resolved_stmt};
 
-use crate::resolved::{Expr, Stmt};
+use hx_resolved::program::{Expr, Stmt};
 use hx_tree::token::Pos;
 
 /// A call of a function with these arguments.

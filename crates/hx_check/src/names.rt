@@ -2,13 +2,14 @@
 
 ghost use Rattle.std.specs.Prelude.{◌≡◌};
 ghost use Rattle.hx_tree.specs.View.{name_of};
-ghost use Rattle.hx_check.specs.Views.{symbols_in, scopes_of, resolved_expr, resolved_place};
+ghost use Rattle.hx_resolved.specs.Views.{resolved_expr, resolved_place};
+ghost use Rattle.hx_check.specs.Views.{symbols_in, scopes_of};
 ghost use Rattle.hx_check.specs.Reading.{check_variable, check_array, check_callee, gives_value, read, write};
 
 use crate::error::CheckError;
 use crate::locals::{Scopes, private_word};
-use crate::resolved::{Expr, Place, Words};
-use crate::symbol::Symbol;
+use hx_resolved::program::{Expr, Place, Words};
+use hx_resolved::symbol::Symbol;
 use crate::table::Symbols;
 use hx_tree::tree::{Name, Returns};
 

@@ -3,7 +3,7 @@
 ghost use Rattle.std.specs.Prelude.{◌≤◌};
 ghost use Rattle.hx_tree.specs.declared.limits.TheConstants.{FUNCTION_LIMIT, GLOBAL_LIMIT};
 
-use crate::symbol::Symbol;
+use hx_resolved::symbol::Symbol;
 use indexmap::IndexMap;
 
 /// The global names that are declared so far, and how many store words and functions they have.

@@ -1,13 +1,13 @@
 -- Code of the parts of a draft.
 use Rattle.std.proofs.Common.{◌<◌, ◌^◌, ◌∙◌, ap, sym, subst, ◌≡◌, ℕ, List, Option, length, map, option_map}
 use Rattle.std.specs.Prelude.{ℤ}
-use Rattle.hx_check.specs.declared.resolved.Words.{Words}
+use Rattle.hx_resolved.specs.declared.program.Words.{Words}
 use Rattle.hx_code.specs.Code.{CodeView}
 use Rattle.hx_lowering.specs.declared.line.Line.{Line}
 use Rattle.hx_tree.specs.Tree as tree
 use Rattle.hx_tree.specs.Accepted.{IsAccepted}
-use Rattle.hx_check.specs.Resolved as resolved
-use Rattle.hx_check.specs.Resolve.{resolve}
+use Rattle.hx_resolved.specs.Resolved as resolved
+use Rattle.hx_resolved.specs.Resolve.{resolve}
 use Rattle.hx_code.specs.Valid.{IsValid}
 use Rattle.hx_lowered.specs.Lowered.{LoweredCodeIsValid}
 use Rattle.hx_lowering.specs.Correct.{Behaves}

@@ -3,15 +3,15 @@ use Rattle.std.proofs.Common.{Global, ◌≡◌, map, List, [], ◌∷◌, refl,
 use Rattle.std.specs.Prelude.{Vec}
 use Rattle.hx_tree.specs.declared.token.Pos.{Pos}
 use Rattle.std.specs.Prelude.{ℕ}
-use Rattle.hx_check.specs.Resolved as resolved
-use Rattle.hx_check.specs.declared.resolved.Expr.{Expr, Row_of-Expr, end_of-Expr, more_of-Expr, items-the_row-Expr, items_hidden-the_row-Expr-0}
-use Rattle.hx_check.specs.declared.resolved.Expr.TheBlock.{hidden-the_row-Expr-0}
-use Rattle.hx_check.specs.declared.resolved.Expr.TheVariants as expr
-use Rattle.hx_check.specs.declared.resolved.Stmt.{Stmt, Row_of-Stmt, end_of-Stmt, more_of-Stmt, items-the_row-Stmt, items_hidden-the_row-Stmt-0}
-use Rattle.hx_check.specs.declared.resolved.Stmt.TheBlock.{hidden-the_row-Stmt-0}
-use Rattle.hx_check.specs.declared.resolved.Stmt.TheVariants as stmt
+use Rattle.hx_resolved.specs.Resolved as resolved
+use Rattle.hx_resolved.specs.declared.program.Expr.{Expr, Row_of-Expr, end_of-Expr, more_of-Expr, items-the_row-Expr, items_hidden-the_row-Expr-0}
+use Rattle.hx_resolved.specs.declared.program.Expr.TheBlock.{hidden-the_row-Expr-0}
+use Rattle.hx_resolved.specs.declared.program.Expr.TheVariants as expr
+use Rattle.hx_resolved.specs.declared.program.Stmt.{Stmt, Row_of-Stmt, end_of-Stmt, more_of-Stmt, items-the_row-Stmt, items_hidden-the_row-Stmt-0}
+use Rattle.hx_resolved.specs.declared.program.Stmt.TheBlock.{hidden-the_row-Stmt-0}
+use Rattle.hx_resolved.specs.declared.program.Stmt.TheVariants as stmt
 use Rattle.hx_lowering.specs.Lines.{count}
-use Rattle.hx_check.specs.Views.{resolved_expr, resolved_exprs, resolved_stmt, resolved_stmts}
+use Rattle.hx_resolved.specs.Views.{resolved_expr, resolved_exprs, resolved_stmt, resolved_stmts}
 
 pub exprs_are : {m : _} (row : Row_of-Expr m) → resolved_exprs row ≡ resolved.exprs (map resolved_expr (items-the_row-Expr m row))
 exprs_are end_of-Expr = refl

@@ -1,6 +1,6 @@
 -- What a loop over parts keeps: the words of all of them are those so far, and behind them those of the rest.
 use Rattle.std.proofs.Common.{◌≡◌, ℕ, ◌+◌, ◌≤◌, List, length}
-use Rattle.hx_check.specs.Resolved.{Expr, Simple, Stmt, Function, exprs, stmts}
+use Rattle.hx_resolved.specs.Resolved.{Expr, Simple, Stmt, Function, exprs, stmts}
 use Rattle.hx_lowering.specs.Draft.{Draft, Targets, with_lines, stmts_draft, functions_draft}
 use Rattle.hx_lowering.specs.Lines.{Version, exprs_lines, simples_lines}
 

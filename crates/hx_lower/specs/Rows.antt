@@ -4,7 +4,7 @@ use Rattle.std.specs.Fmt.{digits}
 use Rattle.hx_tree.specs.declared.token.Pos.{Pos}
 use Rattle.hx_tree.specs.declared.tree.BinaryOp.TheVariants.{Strict, And}
 use Rattle.hx_tree.specs.declared.tree.Operator.TheVariants.{Add, Less}
-use Rattle.hx_check.specs.Resolved.{Number, Private, Word, Binary, ToPrivate, ToWord, ToElement, Set, Update, Declare, Assign, IsRegion, Do, Block, If, Loop, Break, stmts, Program}
+use Rattle.hx_resolved.specs.Resolved.{Number, Private, Word, Binary, ToPrivate, ToWord, ToElement, Set, Update, Declare, Assign, IsRegion, Do, Block, If, Loop, Break, stmts, Program}
 use Rattle.hx_lowering.specs.Draft.{code_of}
 use Rattle.hx_lower.specs.Listing.{listing_of}
 

@@ -1,13 +1,13 @@
 // The words of assignments, and of the clauses of loops.
 
 ghost use Rattle.std.specs.Prelude.{◌≡◌, ◌+◌, ◌≤◌, OnOk, length, map, option_map};
-ghost use Rattle.hx_check.specs.Views.{resolved_assignment, resolved_expr, resolved_simple};
+ghost use Rattle.hx_resolved.specs.Views.{resolved_assignment, resolved_expr, resolved_simple};
 ghost use Rattle.hx_lowering.specs.Draft.{with_lines};
 ghost use Rattle.hx_lowering.specs.Lines as lines;
 
 use crate::draft::{Drafted, Version, array_of};
 use crate::expression::{put_expr, put_part};
-use hx_check::resolved::{Assignment, Expr, Place, Simple};
+use hx_resolved::program::{Assignment, Expr, Place, Simple};
 use hx_code::word::Word;
 use std::alloc::AllocError;
 

@@ -2,8 +2,8 @@
 
 ghost use Rattle.std.specs.Prelude.{◌≡◌, ◌+◌, ◌<◌, ◌^◌, ◌≤◌, OnOk, OkIff, IfOk, map, length, pos};
 ghost use Rattle.hx_code.specs.declared.word.Word.TheVariants.{Const, Jump, JumpFalse, JumpTrue};
-ghost use Rattle.hx_check.specs.Resolved.{exprs};
-ghost use Rattle.hx_check.specs.Views.{resolved_expr};
+ghost use Rattle.hx_resolved.specs.Resolved.{exprs};
+ghost use Rattle.hx_resolved.specs.Views.{resolved_expr};
 ghost use Rattle.hx_lowering.specs.Draft.{with_lines};
 ghost use Rattle.hx_lowering.specs.Lines as lines;
 ghost use Rattle.hx_lowering.specs.Size as size;
@@ -11,7 +11,7 @@ ghost use Rattle.hx_lowering.specs.Size as size;
 use crate::draft::{Drafted, Version, array_of};
 use crate::size::expr_size;
 use crate::target::{behind, counted};
-use hx_check::resolved::Expr;
+use hx_resolved::program::Expr;
 use hx_code::word::Word;
 use hx_tree::tree::BinaryOp;
 use std::alloc::AllocError;

@@ -2,7 +2,7 @@
 
 ghost use Rattle.std.specs.Prelude.{◌≡◌, IfOk};
 ghost use Rattle.hx_tree.specs.View.{program_of};
-ghost use Rattle.hx_check.specs.Resolve.{resolve};
+ghost use Rattle.hx_resolved.specs.Resolve.{resolve};
 ghost use Rattle.hx_lowering.specs.Correct.{Behaves};
 ghost use Rattle.hx_lowering.specs.Draft.{code_of};
 

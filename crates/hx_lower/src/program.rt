@@ -1,7 +1,7 @@
 // The words of functions and of whole programs, with what is told of them.
 
 ghost use Rattle.std.specs.Prelude.{◌≡◌, ◌<◌, ◌^◌, IfOk, OkIff, OnOk, length, map, option_map};
-ghost use Rattle.hx_check.specs.Views.{resolved_function, resolved_of};
+ghost use Rattle.hx_resolved.specs.Views.{resolved_function, resolved_of};
 ghost use Rattle.hx_code.specs.Validation.{code_of as code_with};
 ghost use Rattle.hx_lowering.specs.Draft.{function_draft, functions_draft, draft_of, code_of};
 ghost use Rattle.hx_lowering.specs.Lines as lines;
@@ -9,7 +9,7 @@ ghost use Rattle.hx_lowering.specs.Lines as lines;
 use crate::draft::{Drafted, Version, array_of};
 use crate::statement::put_stmts;
 use crate::target::Targets;
-use hx_check::resolved::{Function, Program, Words};
+use hx_resolved::program::{Function, Program, Words};
 use hx_code::table::{Func, Tables};
 use hx_code::word::{Array, Word};
 use std::alloc::{AllocError, Global};

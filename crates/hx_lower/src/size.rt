@@ -1,12 +1,12 @@
 // How many words each part of a program has; none where 32 bits don't count them.
 
 ghost use Rattle.std.specs.Prelude.{◌≡◌, ◌+◌, ◌<◌, ◌^◌, SomeIff, map, option_map};
-ghost use Rattle.hx_check.specs.Resolved.{exprs, stmts};
-ghost use Rattle.hx_check.specs.Views.{resolved_assignment, resolved_clauses, resolved_expr, resolved_kind, resolved_place, resolved_simple, resolved_stmt};
+ghost use Rattle.hx_resolved.specs.Resolved.{exprs, stmts};
+ghost use Rattle.hx_resolved.specs.Views.{resolved_assignment, resolved_clauses, resolved_expr, resolved_kind, resolved_place, resolved_simple, resolved_stmt};
 ghost use Rattle.hx_lowering.specs.Size as size;
 ghost use Rattle.hx_lower.specs.Words.{binary_words};
 
-use hx_check::resolved::{Assignment, Clauses, Expr, LoopKind, Place, Simple, Stmt};
+use hx_resolved::program::{Assignment, Clauses, Expr, LoopKind, Place, Simple, Stmt};
 use hx_tree::tree::BinaryOp;
 
 fn sum(a: u32, b: u32, more: u32) -> Option<u32>

@@ -1,8 +1,8 @@
 // The words of statements.
 
 ghost use Rattle.std.specs.Prelude.{◌≡◌, ◌+◌, ◌++◌, ◌∷◌, [], OnOk, IfOk, map, option_map, length};
-ghost use Rattle.hx_check.specs.Resolved.{exprs, stmts};
-ghost use Rattle.hx_check.specs.Views.{resolved_clauses, resolved_expr, resolved_kind, resolved_region, resolved_stmt};
+ghost use Rattle.hx_resolved.specs.Resolved.{exprs, stmts};
+ghost use Rattle.hx_resolved.specs.Views.{resolved_clauses, resolved_expr, resolved_kind, resolved_region, resolved_stmt};
 ghost use Rattle.hx_lowering.specs.Draft.{stmt_draft, stmts_draft, turn_draft, plain_draft, turns_draft, region_draft, loop_draft, do_draft, targets, cells_from, counter_of as counter, put_word, with_lines};
 ghost use Rattle.hx_lowering.specs.Lines as lines;
 ghost use Rattle.hx_lowering.specs.Size as size;
@@ -14,7 +14,7 @@ use crate::draft::{Drafted, Version, cells_of, counter_of};
 use crate::expression::{put_call, put_part};
 use crate::size::stmt_size;
 use crate::target::{Targets, behind_if, counted, places_of_else, places_of_region};
-use hx_check::resolved::{Clauses, Expr, LoopKind, Region, Stmt};
+use hx_resolved::program::{Clauses, Expr, LoopKind, Region, Stmt};
 use hx_code::table;
 use hx_code::table::Carried;
 use hx_code::word::Word;

@@ -1,12 +1,12 @@
 // Places that jumps go to, told before the words on the way are put.
 
 ghost use Rattle.std.specs.Prelude.{◌≡◌, ◌+◌, ◌<◌, ◌^◌, IfErr, IfOk, OkIff};
-ghost use Rattle.hx_check.specs.Views.{resolved_clauses, resolved_expr, resolved_stmt};
+ghost use Rattle.hx_resolved.specs.Views.{resolved_clauses, resolved_expr, resolved_stmt};
 ghost use Rattle.hx_lowering.specs.Draft.{targets, do_targets, no_targets};
 ghost use Rattle.hx_lowering.specs.Size as size;
 
 use crate::size::{expr_size, stmt_size, test_size, turn_size};
-use hx_check::resolved::{Clauses, Expr, Stmt};
+use hx_resolved::program::{Clauses, Expr, Stmt};
 use std::alloc::AllocError;
 use std::marker::Model;
 

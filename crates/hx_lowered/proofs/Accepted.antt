@@ -11,10 +11,10 @@ use Rattle.hx_tree.specs.World.{Map, look_up}
 use Rattle.hx_tree.specs.Height.{if_there}
 use Rattle.hx_tree.specs.Need.{need, needs, set_need, update_need, assignment_need, locals_need, init_need}
 use Rattle.hx_tree.specs.Accepted.{Kind, IntKind, ArrayKind, FunctionKind, Surroundings, kind_of, count, IsInt, IsArray, AcceptsExpr, AcceptsExprs, IfThere, AcceptsPlace, AcceptsAssignment, AcceptsLocals, AcceptsInit, with_local, init_locals}
-use Rattle.hx_check.specs.declared.symbol.Symbol.{Symbol}
-use Rattle.hx_check.specs.Resolved as resolved
-use Rattle.hx_check.specs.Symbols.{Scopes, private_word, with_word}
-use Rattle.hx_check.specs.Resolve.{int_word, array_words, function_number, or_else, no_words, words_named, function_at, word_named, variable, to_variable, resolve_expr, resolve_exprs, resolve_place, resolve_assignment, expr_or_zero, resolve_locals, resolve_init}
+use Rattle.hx_resolved.specs.declared.symbol.Symbol.{Symbol}
+use Rattle.hx_resolved.specs.Resolved as resolved
+use Rattle.hx_resolved.specs.Symbols.{Scopes, private_word, with_word}
+use Rattle.hx_resolved.specs.Resolve.{int_word, array_words, function_number, or_else, no_words, words_named, function_at, word_named, variable, to_variable, resolve_expr, resolve_exprs, resolve_place, resolve_assignment, expr_or_zero, resolve_locals, resolve_init}
 use Rattle.hx_lowering.specs.Lines as lines
 use Rattle.hx_lowered.proofs.WellFormed.{Context, FitsWords, FitsExpr, FitsExprs, FitsAssignment, FitsSimples, FitsTest, FitsStep}
 use Rattle.hx_lowered.proofs.Symbols.{Agree}

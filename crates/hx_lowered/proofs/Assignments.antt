@@ -1,7 +1,7 @@
 -- The words of assignments, declarations, tests and steps keep the rules.
 use Rattle.std.proofs.Common.{ℕ, List, [], ◌∷◌, length, Option, Some, None, refl, arith}
-use Rattle.hx_check.specs.Resolved as resolved
-use Rattle.hx_check.specs.Resolved.{Expr, Assignment, Simple}
+use Rattle.hx_resolved.specs.Resolved as resolved
+use Rattle.hx_resolved.specs.Resolved.{Expr, Assignment, Simple}
 use Rattle.hx_code.specs.declared.word.Word.TheVariants.{SetGlob, Glob, Elem, SetElem, Dup, Binary, JumpFalse}
 use Rattle.hx_code.specs.Code.{CodeView}
 use Rattle.hx_lowering.specs.declared.line.Line.{Line}

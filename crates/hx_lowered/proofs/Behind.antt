@@ -1,7 +1,7 @@
 -- How many words assignments, tests and steps put behind the others, which stay.
 use Rattle.std.proofs.Common.{◌≡◌, ℕ, ◌+◌, List, [], ◌∷◌, length, Option, Some, None, refl, arith}
-use Rattle.hx_check.specs.Resolved as resolved
-use Rattle.hx_check.specs.Resolved.{Expr, Assignment, Simple}
+use Rattle.hx_resolved.specs.Resolved as resolved
+use Rattle.hx_resolved.specs.Resolved.{Expr, Assignment, Simple}
 use Rattle.hx_code.specs.declared.word.Word.TheVariants.{SetGlob, Glob, Elem, SetElem, Dup, Binary, JumpFalse}
 use Rattle.hx_code.specs.declared.word.Word.{Word}
 use Rattle.hx_code.specs.Code.{CodeView}

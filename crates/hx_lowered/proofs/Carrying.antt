@@ -4,9 +4,9 @@ use Rattle.std.specs.Prelude.{not, ◌&&◌, ◌||◌, nat_eq, cond}
 use Rattle.std.proofs.lemmas.Bool.Decides.{Decides-eqb}
 use Rattle.std.specs.List.{AllByRecursion, range_with_len, filter}
 use Rattle.hx_tree.specs.declared.limits.TheConstants.{CELL_LIMIT}
-use Rattle.hx_check.specs.declared.resolved.Induct.{Induct}
-use Rattle.hx_check.specs.Resolved.{ToPrivate, ToWord, ToElement, Set, Update, Simple, Declare, Assign, Clauses, Stmt}
-use Rattle.hx_check.specs.Carried.{if_any, any_of, kept_if, simple_begins, stmt_assigns, induct_of, is_induct, region_of, is_carried, is_copied, turns_declare, turns_assign, turns_read}
+use Rattle.hx_resolved.specs.declared.program.Induct.{Induct}
+use Rattle.hx_resolved.specs.Resolved.{ToPrivate, ToWord, ToElement, Set, Update, Simple, Declare, Assign, Clauses, Stmt}
+use Rattle.hx_resolved.specs.Carried.{if_any, any_of, kept_if, simple_begins, stmt_assigns, induct_of, is_induct, region_of, is_carried, is_copied, turns_declare, turns_assign, turns_read}
 use Rattle.hx_lowered.proofs.WellFormed.{Context, FitsSimple, FitsSimples, IsRising, ShareNone, FitsInduct, FitsRegion}
 use Rattle.hx_lowered.proofs.Fine.{each_so}
 

@@ -1,6 +1,6 @@
 -- The words of a `do` keep the rules, where its body's words do.
 use Rattle.std.proofs.Common.{◌≡◌, ℕ, ◌+◌, length, refl, arith}
-use Rattle.hx_check.specs.Resolved.{Expr}
+use Rattle.hx_resolved.specs.Resolved.{Expr}
 use Rattle.hx_code.specs.declared.word.Word.TheVariants.{JumpTrue}
 use Rattle.hx_code.specs.Code.{CodeView}
 use Rattle.hx_lowering.specs.Size.{expr_size}

@@ -4,8 +4,8 @@ use Rattle.std.specs.Prelude.{slice_get, option_map}
 use Rattle.std.specs.List.{AllByRecursion}
 use Rattle.std.proofs.lemmas.List.{length-map, map-append}
 use Rattle.std.proofs.lemmas.Option.{slice_get-map, slice_get_within, slice_get-get_or}
-use Rattle.hx_check.specs.declared.resolved.Words.{Words}
-use Rattle.hx_check.specs.Resolved.{Function, Program}
+use Rattle.hx_resolved.specs.declared.program.Words.{Words}
+use Rattle.hx_resolved.specs.Resolved.{Function, Program}
 use Rattle.hx_code.specs.declared.word.Word.{Word}
 use Rattle.hx_code.specs.declared.word.Word.TheVariants.{Const, Ret}
 use Rattle.hx_code.specs.declared.table.Spot.{Spot}

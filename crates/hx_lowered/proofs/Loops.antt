@@ -1,6 +1,6 @@
 -- The words of loops and regions keep the rules, where their bodies' words do.
 use Rattle.std.proofs.Common.{◌≡◌, ℕ, ◌+◌, length, Some, refl, arith}
-use Rattle.hx_check.specs.Resolved.{Clauses}
+use Rattle.hx_resolved.specs.Resolved.{Clauses}
 use Rattle.hx_code.specs.declared.word.Word.TheVariants.{Jump, Turn, Leave}
 use Rattle.hx_code.specs.Code.{CodeView}
 use Rattle.hx_lowering.specs.Size.{turn_size}

@@ -1,5 +1,5 @@
 -- The code of an accepted program is valid.
-use Rattle.hx_check.specs.Resolve.{resolve}
+use Rattle.hx_resolved.specs.Resolve.{resolve}
 use Rattle.hx_lowered.specs.Lowered.{LoweredCodeIsValid}
 use Rattle.hx_lowered.proofs.Functions.{code_is_valid}
 use Rattle.hx_lowered.proofs.Resolving.{resolved_well}

@@ -5,9 +5,9 @@ use Rattle.std.specs.List.{AllByRecursion}
 use Rattle.std.proofs.lemmas.List.Elements.{All-from_recursion}
 use Rattle.std.proofs.lemmas.Option.{slice_get_within}
 use Rattle.hx_tree.specs.declared.limits.TheConstants.{CELL_LIMIT}
-use Rattle.hx_check.specs.declared.resolved.Induct as counted
-use Rattle.hx_check.specs.Resolved as resolved
-use Rattle.hx_check.specs.Resolved.{Clauses}
+use Rattle.hx_resolved.specs.declared.program.Induct as counted
+use Rattle.hx_resolved.specs.Resolved as resolved
+use Rattle.hx_resolved.specs.Resolved.{Clauses}
 use Rattle.hx_code.specs.declared.word.Word.TheVariants.{Enter}
 use Rattle.hx_code.specs.declared.table.Spot.{Spot}
 use Rattle.hx_code.specs.declared.table.Carried.{Carried}

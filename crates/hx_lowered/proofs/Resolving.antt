@@ -13,11 +13,11 @@ use Rattle.hx_tree.specs.Meaning.{functions_of, item_functions}
 use Rattle.hx_tree.specs.Height.{if_there}
 use Rattle.hx_tree.specs.Need.{need, stmt_need, part_need, parts_need}
 use Rattle.hx_tree.specs.Accepted.{Kind, IntKind, ArrayKind, FunctionKind, Surroundings, kinds_of, in_scope, inside_loop, after_init, after_part, at_start, AcceptsReturn, AcceptsStmt, AcceptsPart, AcceptsParts, AcceptsFunction, AcceptsItem, IsAccepted, init_locals, stmt_locals, part_locals, parts_locals, private_words, item_words}
-use Rattle.hx_check.specs.declared.symbol.Symbol.{Symbol}
-use Rattle.hx_check.specs.Resolved as resolved
-use Rattle.hx_check.specs.Symbols.{Scopes, words_after_init, numbered, symbols_of}
-use Rattle.hx_check.specs.Resolve as to
-use Rattle.hx_check.specs.Resolve.{int_word, array_words, function_number, or_else, loop_in, while_clauses, resolve_clauses, simples_then, words_after_part, resolve_stmt, resolve_part_then, resolve_parts, resolve_function, resolve, expr_or_zero}
+use Rattle.hx_resolved.specs.declared.symbol.Symbol.{Symbol}
+use Rattle.hx_resolved.specs.Resolved as resolved
+use Rattle.hx_resolved.specs.Symbols.{Scopes, words_after_init, numbered, symbols_of}
+use Rattle.hx_resolved.specs.Resolve as to
+use Rattle.hx_resolved.specs.Resolve.{int_word, array_words, function_number, or_else, loop_in, while_clauses, resolve_clauses, simples_then, words_after_part, resolve_stmt, resolve_part_then, resolve_parts, resolve_function, resolve, expr_or_zero}
 use Rattle.hx_lowered.proofs.WellFormed.{Context, FitsExpr, FitsSimples, FitsClauses, FitsStmt, FitsStmts, FitsFunction, FitsInput, FitsInputLength, IsWellFormed, parameters_of}
 use Rattle.hx_lowered.proofs.Symbols.{Agree, agrees, items_length, param_counts}
 use Rattle.hx_lowered.proofs.Scopes.{here_scope, here_locals, here_init, here_parameters, same_globals, globals_after, same_loop}

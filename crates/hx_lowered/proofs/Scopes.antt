@@ -5,7 +5,7 @@ use Rattle.hx_tree.specs.Tree.{Name, LocalDecl, Init, NoInit, InitLocals, InitAs
 use Rattle.hx_tree.specs.World.{Map, look_up, first_of}
 use Rattle.hx_tree.specs.Meaning.{texts_of}
 use Rattle.hx_tree.specs.Accepted.{Kind, IntKind, Surroundings, is_among, is_local, with_name, with_local, with_locals, after_init, kind_of, init_locals}
-use Rattle.hx_check.specs.Symbols.{Scopes, private_word, with_word, with_words, words_after_init, numbered}
+use Rattle.hx_resolved.specs.Symbols.{Scopes, private_word, with_word, with_words, words_after_init, numbered}
 
 abbrev pub names_in : Map ℕ → List (List ℕ)
 names_in [] = []

@@ -16,11 +16,11 @@ use Rattle.hx_tree.specs.Meaning.{item_functions}
 use Rattle.hx_tree.specs.Lexis.{Token, Piece, Falls, tokens_of, place_after, first_place}
 use Rattle.hx_tree.specs.Grammar.{Named, Numeral, At, The, Optional, EachBehindComma, Listed, IsExprOf, IsExpr, AreArguments, AreMoreArguments, IsLocal, AreLocals, IsPlace, Updating, IsAssignment, IsInit, AreForClauses, InParens, IsStmt, IsPart, AreParts, Sign, IsConstant, AreValues, IsShape, IsGlobal, IsParams, AreItems, Spells}
 use Rattle.hx_tree.specs.Accepted.{stmt_locals, part_locals, init_locals, private_words}
-use Rattle.hx_check.specs.declared.symbol.Symbol.{Symbol}
-use Rattle.hx_check.specs.Resolved as resolved
-use Rattle.hx_check.specs.Symbols.{Scopes, private_word, with_word, words_after_init, symbols_of}
-use Rattle.hx_check.specs.Resolve as to
-use Rattle.hx_check.specs.Resolve.{word_named, variable, to_variable, resolve_expr, resolve_exprs, resolve_place, resolve_assignment, expr_or_zero, resolve_locals, resolve_init, resolve_clauses, while_clauses, loop_in, simples_then, words_after_part, resolve_stmt, resolve_part_then, resolve_parts, resolve_function, resolve}
+use Rattle.hx_resolved.specs.declared.symbol.Symbol.{Symbol}
+use Rattle.hx_resolved.specs.Resolved as resolved
+use Rattle.hx_resolved.specs.Symbols.{Scopes, private_word, with_word, words_after_init, symbols_of}
+use Rattle.hx_resolved.specs.Resolve as to
+use Rattle.hx_resolved.specs.Resolve.{word_named, variable, to_variable, resolve_expr, resolve_exprs, resolve_place, resolve_assignment, expr_or_zero, resolve_locals, resolve_init, resolve_clauses, while_clauses, loop_in, simples_then, words_after_part, resolve_stmt, resolve_part_then, resolve_parts, resolve_function, resolve}
 use Rattle.hx_code.specs.declared.word.Word.TheVariants as word
 use Rattle.hx_code.specs.Code.{CodeView}
 use Rattle.hx_lowering.specs.declared.line.Line.{Line}

@@ -1,8 +1,8 @@
 -- The words of statements keep the rules.
 use Rattle.std.proofs.Common.{◌≡◌, ℕ, ◌+◌, Bool, true, [], ◌∷◌, length, None, refl, arith}
 use Rattle.std.specs.Prelude.{IsTrue, IsFalse}
-use Rattle.hx_check.specs.Resolved as resolved
-use Rattle.hx_check.specs.Resolved.{Expr, Clauses, LoopKind, Stmt, Stmts}
+use Rattle.hx_resolved.specs.Resolved as resolved
+use Rattle.hx_resolved.specs.Resolved.{Expr, Clauses, LoopKind, Stmt, Stmts}
 use Rattle.hx_code.specs.declared.word.Word.{Word}
 use Rattle.hx_code.specs.declared.word.Word.TheVariants.{Drop, Jump, JumpFalse, Call, Ret, Print, Emit}
 use Rattle.hx_code.specs.Code.{CodeView}

@@ -9,9 +9,9 @@ use Rattle.hx_tree.specs.Tree.{Program, Item, Globals, Function, GlobalDecl, Sha
 use Rattle.hx_tree.specs.World.{Map, look_up}
 use Rattle.hx_tree.specs.Meaning.{item_globals, item_functions, functions_of, opening_words, constant_value}
 use Rattle.hx_tree.specs.Accepted.{Kind, IntKind, ArrayKind, FunctionKind, item_kinds, kind_of_shape, kinds_of, shape_words, item_words, AcceptsShape, AcceptsItem}
-use Rattle.hx_check.specs.declared.symbol.Symbol.{Symbol}
-use Rattle.hx_check.specs.declared.symbol.Symbol.TheVariants as symbol
-use Rattle.hx_check.specs.Symbols.{symbol_at, global_symbols, items_symbols, symbols_of}
+use Rattle.hx_resolved.specs.declared.symbol.Symbol.{Symbol}
+use Rattle.hx_resolved.specs.declared.symbol.Symbol.TheVariants as symbol
+use Rattle.hx_resolved.specs.Symbols.{symbol_at, global_symbols, items_symbols, symbols_of}
 
 -- ---- how many words the globals have
 

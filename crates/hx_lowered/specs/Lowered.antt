@@ -3,7 +3,7 @@ use Rattle.std.specs.Prelude.{ℕ, ◌<◌, ◌^◌, List, length}
 use Rattle.hx_tree.specs.Tree.{Program}
 use Rattle.hx_tree.specs.Grammar.{Spells}
 use Rattle.hx_tree.specs.Accepted.{IsAccepted}
-use Rattle.hx_check.specs.Resolve.{resolve}
+use Rattle.hx_resolved.specs.Resolve.{resolve}
 use Rattle.hx_code.specs.Valid.{IsValid}
 use Rattle.hx_lowering.specs.Draft.{code_of}
 

@@ -5,7 +5,7 @@ use Rattle.std.proofs.lemmas.Bool.{cases_lt}
 use Rattle.std.proofs.Math.Seq.{drop-append_seam}
 use Rattle.hx_tree.specs.Tree.{Name}
 use Rattle.hx_tree.specs.Meaning.{texts_of}
-use Rattle.hx_check.specs.Symbols.{numbered}
+use Rattle.hx_resolved.specs.Symbols.{numbered}
 use Rattle.hx_code.specs.Local.{with_arguments}
 use Rattle.hx_lowering.proofs.Calling.{onto}
 use Rattle.hx_lowering.proofs.Names.{values_in}

@@ -12,10 +12,10 @@ use Rattle.hx_tree.specs.Value.{Calling, value, values, operate, read_variable}
 use Rattle.hx_tree.specs.Effect.{call_in, assign, write_variable, no_place, update_place, set_place}
 use Rattle.hx_tree.specs.Accepted.{Surroundings, AcceptsExpr, AcceptsExprs, AcceptsAssignment, AcceptsPlace, FunctionKind, kind_of, count}
 use Rattle.hx_tree.specs.declared.tree.Returns.{Returns}
-use Rattle.hx_check.specs.Resolved as resolved
-use Rattle.hx_check.specs.Symbols.{Scopes, private_word, symbols_of}
-use Rattle.hx_check.specs.Carried.{assignment_reads, assigns, expr_reads, exprs_read, index_reads, is_to}
-use Rattle.hx_check.specs.Resolve.{resolve_expr, resolve_exprs, function_at, resolve_assignment, to_variable, word_named, words_named}
+use Rattle.hx_resolved.specs.Resolved as resolved
+use Rattle.hx_resolved.specs.Symbols.{Scopes, private_word, symbols_of}
+use Rattle.hx_resolved.specs.Carried.{assignment_reads, assigns, expr_reads, exprs_read, index_reads, is_to}
+use Rattle.hx_resolved.specs.Resolve.{resolve_expr, resolve_exprs, function_at, resolve_assignment, to_variable, word_named, words_named}
 use Rattle.hx_code.specs.declared.word.Word.TheVariants.{Glob, SetGlob, Elem, SetElem, Dup, Binary, Call}
 use Rattle.hx_code.specs.Code.{CodeView}
 use Rattle.hx_code.specs.Machine.{Machine}

@@ -7,10 +7,10 @@ use Rattle.hx_tree.specs.declared.limits.TheConstants.{CELL_LIMIT}
 use Rattle.hx_tree.specs.Tree.{Program, Item, Globals, Function, GlobalDecl, Shape, Scalar, Array}
 use Rattle.hx_tree.specs.Meaning.{room_for_input, item_globals, globals_of, opening_words, constant_value, filled, counted, words_at_start, array_words, opening_world, InputFits}
 use Rattle.hx_tree.specs.Accepted.{AcceptsItem, AcceptsShape, IsAccepted, shape_words, is_among, IsDistinct}
-use Rattle.hx_check.specs.declared.resolved.Words.{Words}
-use Rattle.hx_check.specs.Symbols.{symbol_at}
-use Rattle.hx_check.specs.Resolve.{resolve, int_word}
-use Rattle.hx_check.specs.Resolve as resolve
+use Rattle.hx_resolved.specs.declared.program.Words.{Words}
+use Rattle.hx_resolved.specs.Symbols.{symbol_at}
+use Rattle.hx_resolved.specs.Resolve.{resolve, int_word}
+use Rattle.hx_resolved.specs.Resolve as resolve
 use Rattle.hx_code.specs.Machine as code
 use Rattle.hx_lowering.specs.Lines.{array_of}
 use Rattle.hx_lowering.specs.Draft.{code_of}

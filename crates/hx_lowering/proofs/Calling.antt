@@ -6,8 +6,8 @@ use Rattle.hx_tree.specs.Tree.{Program, Name}
 use Rattle.hx_tree.specs.World.{World, look_up}
 use Rattle.hx_tree.specs.Value.{Calling}
 use Rattle.hx_tree.specs.Accepted.{FunctionKind, kinds_of}
-use Rattle.hx_check.specs.Symbols.{symbols_of}
-use Rattle.hx_check.specs.Resolve.{function_at}
+use Rattle.hx_resolved.specs.Symbols.{symbols_of}
+use Rattle.hx_resolved.specs.Resolve.{function_at}
 use Rattle.hx_code.specs.declared.word.Word.TheVariants.{Call}
 use Rattle.hx_code.specs.Code.{CodeView}
 use Rattle.hx_code.specs.Machine.{Machine}

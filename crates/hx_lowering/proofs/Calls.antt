@@ -13,9 +13,9 @@ use Rattle.hx_tree.specs.World.{look_up, Map, Environment, World, Gives, â—Œ>>=â
 use Rattle.hx_tree.specs.Effect.{Exit, GoesOn, Breaks, Continues, Returns, Context, effects}
 use Rattle.hx_tree.specs.Meaning.{calls, item_functions, functions_of, texts_of, returned, run_function, ending}
 use Rattle.hx_tree.specs.Accepted.{FunctionKind, AcceptsItem, AcceptsFunction, IsAccepted, kinds_of, at_start, private_words}
-use Rattle.hx_check.specs.Resolved as resolved
-use Rattle.hx_check.specs.Symbols.{symbols_of, numbered}
-use Rattle.hx_check.specs.Resolve.{resolve, resolve_function, function_number, function_at, or_else}
+use Rattle.hx_resolved.specs.Resolved as resolved
+use Rattle.hx_resolved.specs.Symbols.{symbols_of, numbered}
+use Rattle.hx_resolved.specs.Resolve.{resolve, resolve_function, function_number, function_at, or_else}
 use Rattle.hx_code.specs.declared.word.Word.TheVariants.{Const, Ret, Call}
 use Rattle.hx_code.specs.declared.word.Ask.TheVariants as ask
 use Rattle.hx_code.specs.Code.{CodeView, FuncView}

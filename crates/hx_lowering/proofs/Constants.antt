@@ -12,12 +12,12 @@ use Rattle.hx_tree.specs.Tree as tree
 use Rattle.hx_tree.specs.World.{Map}
 use Rattle.hx_tree.specs.Meaning.{item_functions}
 use Rattle.hx_tree.specs.Accepted.{Surroundings, Kind, AcceptsExpr, AcceptsExprs, AcceptsPlace, AcceptsAssignment, AcceptsLocals, AcceptsInit, AcceptsReturn, AcceptsStmt, AcceptsParts, AcceptsItem, AcceptsFunction, IfThere, IsAccepted, with_local, after_init, after_part, in_scope, inside_loop, init_locals, stmt_locals, part_locals, at_start, kinds_of}
-use Rattle.hx_check.specs.declared.symbol.Symbol.{Symbol}
-use Rattle.hx_check.specs.Resolved as resolved
-use Rattle.hx_check.specs.Resolved.{Clauses, LoopKind}
-use Rattle.hx_check.specs.Symbols.{Scopes, private_word, with_word, words_after_init, numbered, symbols_of}
-use Rattle.hx_check.specs.Resolve as resolve
-use Rattle.hx_check.specs.Resolve.{variable, to_variable, word_named, words_named, resolve_expr, resolve_exprs, resolve_place, resolve_assignment, expr_or_zero, resolve_locals, resolve_init, resolve_stmt, resolve_part_then, resolve_parts, simples_then, words_after_part, resolve_function, around_function, kind_if, while_clauses, resolve_clauses}
+use Rattle.hx_resolved.specs.declared.symbol.Symbol.{Symbol}
+use Rattle.hx_resolved.specs.Resolved as resolved
+use Rattle.hx_resolved.specs.Resolved.{Clauses, LoopKind}
+use Rattle.hx_resolved.specs.Symbols.{Scopes, private_word, with_word, words_after_init, numbered, symbols_of}
+use Rattle.hx_resolved.specs.Resolve as resolve
+use Rattle.hx_resolved.specs.Resolve.{variable, to_variable, word_named, words_named, resolve_expr, resolve_exprs, resolve_place, resolve_assignment, expr_or_zero, resolve_locals, resolve_init, resolve_stmt, resolve_part_then, resolve_parts, simples_then, words_after_part, resolve_function, around_function, kind_if, while_clauses, resolve_clauses}
 use Rattle.hx_code.specs.declared.word.Word.{Word}
 use Rattle.hx_code.specs.declared.word.Word.TheVariants.{Const, Glob, SetGlob, Elem, SetElem, Dup, Drop, Unary, Binary, Jump, JumpFalse, JumpTrue, Call, Ret, Print, Emit, Enter, Turn, Leave}
 use Rattle.hx_lowering.specs.declared.line.Line.{Line}

@@ -12,12 +12,12 @@ use Rattle.hx_tree.specs.Tree.{Program, Name}
 use Rattle.hx_tree.specs.World.{World, Gives, Run, ◌>>=◌, gives, Environment, local_value, set_local, read_element, write_element}
 use Rattle.hx_tree.specs.Value.{Calling, operate}
 use Rattle.hx_tree.specs.Effect.{step_of, update_place, no_place}
-use Rattle.hx_check.specs.declared.resolved.Induct as counted
-use Rattle.hx_check.specs.Resolved as resolved
-use Rattle.hx_check.specs.Symbols.{Scopes, private_word, symbols_of}
-use Rattle.hx_check.specs.Carried.{if_any, assignment_reads, index_reads, expr_reads}
-use Rattle.hx_check.specs.Resolve.{resolve_assignment, to_variable, word_named}
-use Rattle.hx_check.specs.Counts.{number_token, counted_by, induct_with, step_counts}
+use Rattle.hx_resolved.specs.declared.program.Induct as counted
+use Rattle.hx_resolved.specs.Resolved as resolved
+use Rattle.hx_resolved.specs.Symbols.{Scopes, private_word, symbols_of}
+use Rattle.hx_resolved.specs.Carried.{if_any, assignment_reads, index_reads, expr_reads}
+use Rattle.hx_resolved.specs.Resolve.{resolve_assignment, to_variable, word_named}
+use Rattle.hx_resolved.specs.Counts.{number_token, counted_by, induct_with, step_counts}
 use Rattle.hx_lowering.proofs.Names.{env_of, value_of}
 
 -- ---- number tokens

@@ -5,11 +5,11 @@ use Rattle.std.proofs.lemmas.Bool.Decides.{Decides-eqb}
 use Rattle.hx_tree.specs.Tree as tree
 use Rattle.hx_tree.specs.World.{Map}
 use Rattle.hx_tree.specs.Accepted.{init_locals, stmt_locals}
-use Rattle.hx_check.specs.declared.symbol.Symbol.{Symbol}
-use Rattle.hx_check.specs.Resolved as resolved
-use Rattle.hx_check.specs.Symbols.{Scopes, with_word, with_words, words_after_init}
-use Rattle.hx_check.specs.Carried.{stmts_read, stmts_assign, stmt_declares, stmts_declare, simple_reads, simple_assigns, simple_declares, any_of}
-use Rattle.hx_check.specs.Resolve.{Around, resolve_stmt, resolve_parts, resolve_locals, resolve_init, simples_then}
+use Rattle.hx_resolved.specs.declared.symbol.Symbol.{Symbol}
+use Rattle.hx_resolved.specs.Resolved as resolved
+use Rattle.hx_resolved.specs.Symbols.{Scopes, with_word, with_words, words_after_init}
+use Rattle.hx_resolved.specs.Carried.{stmts_read, stmts_assign, stmt_declares, stmts_declare, simple_reads, simple_assigns, simple_declares, any_of}
+use Rattle.hx_resolved.specs.Resolve.{Around, resolve_stmt, resolve_parts, resolve_locals, resolve_init, simples_then}
 use Rattle.hx_lowering.specs.Lines.{Version, simples_lines}
 use Rattle.hx_lowering.specs.Draft.{Draft, Targets, with_lines, stmts_draft}
 

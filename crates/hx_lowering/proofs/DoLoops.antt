@@ -7,10 +7,10 @@ use Rattle.hx_tree.specs.World.{World, Run, ◌>>=◌, gives, unfinished, Enviro
 use Rattle.hx_tree.specs.Value.{Calling, value}
 use Rattle.hx_tree.specs.Effect.{Exit, GoesOn, Breaks, Continues, Returns, Effect, call_in, goes_on, end_turn, loop}
 use Rattle.hx_tree.specs.Accepted.{Surroundings, AcceptsExpr}
-use Rattle.hx_check.specs.Resolved as resolved
-use Rattle.hx_check.specs.Symbols.{Scopes, symbols_of}
-use Rattle.hx_check.specs.Carried.{expr_reads}
-use Rattle.hx_check.specs.Resolve.{resolve_expr}
+use Rattle.hx_resolved.specs.Resolved as resolved
+use Rattle.hx_resolved.specs.Symbols.{Scopes, symbols_of}
+use Rattle.hx_resolved.specs.Carried.{expr_reads}
+use Rattle.hx_resolved.specs.Resolve.{resolve_expr}
 use Rattle.hx_code.specs.declared.word.Word.TheVariants.{JumpTrue}
 use Rattle.hx_code.specs.declared.word.Ask.TheVariants as ask
 use Rattle.hx_code.specs.Call.{Asks}

@@ -3,10 +3,10 @@ use Rattle.std.proofs.Common.{◌≡◌, ℕ, ◌+◌, true, false, List, [], �
 use Rattle.hx_tree.specs.Tree as tree
 use Rattle.hx_tree.specs.World.{Map}
 use Rattle.hx_tree.specs.Accepted.{init_locals, stmt_locals, part_locals}
-use Rattle.hx_check.specs.declared.symbol.Symbol.{Symbol}
-use Rattle.hx_check.specs.Resolved as resolved
-use Rattle.hx_check.specs.Symbols.{Scopes, words_after_init}
-use Rattle.hx_check.specs.Resolve.{Around, resolve_stmt, resolve_parts, resolve_locals, simples_then, words_after_part}
+use Rattle.hx_resolved.specs.declared.symbol.Symbol.{Symbol}
+use Rattle.hx_resolved.specs.Resolved as resolved
+use Rattle.hx_resolved.specs.Symbols.{Scopes, words_after_init}
+use Rattle.hx_resolved.specs.Resolve.{Around, resolve_stmt, resolve_parts, resolve_locals, simples_then, words_after_part}
 use Rattle.hx_lowering.specs.Lines.{Version}
 use Rattle.hx_lowering.specs.Draft.{Draft, Targets, stmt_draft, stmts_draft}
 

@@ -6,9 +6,9 @@ use Rattle.hx_tree.specs.Tree.{Program, Item, Globals, Function, Func, GlobalDec
 use Rattle.hx_tree.specs.World.{Map, look_up}
 use Rattle.hx_tree.specs.Meaning.{item_functions, functions_of, function_named}
 use Rattle.hx_tree.specs.Accepted.{Kind, IntKind, ArrayKind, FunctionKind, item_kinds, kind_of_shape, kinds_of}
-use Rattle.hx_check.specs.declared.symbol.Symbol.{Symbol}
-use Rattle.hx_check.specs.declared.symbol.Symbol.TheVariants as symbol
-use Rattle.hx_check.specs.Symbols.{symbol_at, global_symbols, items_symbols, symbols_of}
+use Rattle.hx_resolved.specs.declared.symbol.Symbol.{Symbol}
+use Rattle.hx_resolved.specs.declared.symbol.Symbol.TheVariants as symbol
+use Rattle.hx_resolved.specs.Symbols.{symbol_at, global_symbols, items_symbols, symbols_of}
 
 -- ---- by name and by number
 

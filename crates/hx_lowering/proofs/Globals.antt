@@ -5,7 +5,7 @@ use Rattle.std.proofs.lemmas.List.{take-set-le, drop-set-lt, drop-set-add, lengt
 use Rattle.std.proofs.Math.Seq.{take-set-lt}
 use Rattle.std.proofs.lemmas.Bool.{lt-ltb}
 use Rattle.hx_tree.specs.World.{Map, look_up, set_word, with_word}
-use Rattle.hx_check.specs.declared.resolved.Words.{Words}
+use Rattle.hx_resolved.specs.declared.program.Words.{Words}
 
 -- the globals with how many words each has
 abbrev pub Layout : Type 0

@@ -3,7 +3,7 @@ use Rattle.std.proofs.Common.{◌≡◌, ℕ, ◌+◌, ◌≤◌, ◌<◌, Bool,
 use Rattle.std.specs.Prelude.{bytes_eq, is_some}
 use Rattle.std.proofs.lemmas.Bool.{cases_lt}
 use Rattle.hx_tree.specs.World.{Map, look_up, update, set_local, declare, first_of}
-use Rattle.hx_check.specs.Symbols.{Scopes, private_word, with_word}
+use Rattle.hx_resolved.specs.Symbols.{Scopes, private_word, with_word}
 use Rattle.hx_lowering.proofs.Names.{values_in, env_of}
 
 -- each of the numbers is below n

@@ -8,12 +8,12 @@ use Rattle.hx_tree.specs.World.{World, Run, ◌>>=◌, Environment}
 use Rattle.hx_tree.specs.Value.{Calling, value}
 use Rattle.hx_tree.specs.Effect.{Effect, Context, call_in, value_or, step_of, loop}
 use Rattle.hx_tree.specs.Accepted.{Surroundings, AcceptsExpr, AcceptsAssignment, IfThere}
-use Rattle.hx_check.specs.Resolved as resolved
-use Rattle.hx_check.specs.Resolved.{Clauses, Simple}
-use Rattle.hx_check.specs.Symbols.{Scopes, symbols_of}
-use Rattle.hx_check.specs.Carried.{expr_reads, assignment_reads, assigns, if_any}
-use Rattle.hx_check.specs.Counts.{step_counts}
-use Rattle.hx_check.specs.Resolve.{resolve_expr, resolve_assignment}
+use Rattle.hx_resolved.specs.Resolved as resolved
+use Rattle.hx_resolved.specs.Resolved.{Clauses, Simple}
+use Rattle.hx_resolved.specs.Symbols.{Scopes, symbols_of}
+use Rattle.hx_resolved.specs.Carried.{expr_reads, assignment_reads, assigns, if_any}
+use Rattle.hx_resolved.specs.Counts.{step_counts}
+use Rattle.hx_resolved.specs.Resolve.{resolve_expr, resolve_assignment}
 use Rattle.hx_code.specs.declared.word.Word.TheVariants.{Jump, JumpFalse}
 use Rattle.hx_code.specs.Code.{CodeView}
 use Rattle.hx_code.specs.Machine.{Machine}

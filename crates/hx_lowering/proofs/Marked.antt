@@ -6,11 +6,11 @@ use Rattle.hx_tree.specs.Tree.{Program, Name}
 use Rattle.hx_tree.specs.World.{World, Run, Environment}
 use Rattle.hx_tree.specs.Effect.{Exit, Effect, Context, inside as inside_context, is_counted, call_in, value_or, step_of, loop}
 use Rattle.hx_tree.specs.Accepted.{Surroundings, AcceptsExpr, AcceptsAssignment, IfThere}
-use Rattle.hx_check.specs.Resolved as resolved
-use Rattle.hx_check.specs.Resolved.{Clauses, Simple}
-use Rattle.hx_check.specs.Symbols.{Scopes}
-use Rattle.hx_check.specs.Carried.{expr_reads, assignment_reads, assigns, if_any, turns_declare, region_of}
-use Rattle.hx_check.specs.Resolve.{kind_if}
+use Rattle.hx_resolved.specs.Resolved as resolved
+use Rattle.hx_resolved.specs.Resolved.{Clauses, Simple}
+use Rattle.hx_resolved.specs.Symbols.{Scopes}
+use Rattle.hx_resolved.specs.Carried.{expr_reads, assignment_reads, assigns, if_any, turns_declare, region_of}
+use Rattle.hx_resolved.specs.Resolve.{kind_if}
 use Rattle.hx_code.specs.declared.word.Word.TheVariants.{Enter}
 use Rattle.hx_code.specs.declared.word.Ask.TheVariants as ask
 use Rattle.hx_code.specs.Code.{CodeView}

@@ -8,9 +8,9 @@ use Rattle.hx_tree.specs.Tree.{Name, Program}
 use Rattle.hx_tree.specs.World.{Map, look_up, Environment, local_value, first_of, words_of, word_at}
 use Rattle.hx_tree.specs.declared.tree.Returns.{Returns}
 use Rattle.hx_tree.specs.Accepted.{IntKind, ArrayKind, FunctionKind, Surroundings, is_among, is_local, kind_of, kinds_of}
-use Rattle.hx_check.specs.declared.resolved.Words.{Words}
-use Rattle.hx_check.specs.Symbols.{Scopes, private_word, symbols_of}
-use Rattle.hx_check.specs.Resolve.{word_named, words_named, int_word, array_words, or_else, no_words}
+use Rattle.hx_resolved.specs.declared.program.Words.{Words}
+use Rattle.hx_resolved.specs.Symbols.{Scopes, private_word, symbols_of}
+use Rattle.hx_resolved.specs.Resolve.{word_named, words_named, int_word, array_words, or_else, no_words}
 use Rattle.hx_code.specs.Call.{at_index}
 use Rattle.hx_lowering.proofs.Globals.{Layout, store_from, place_of, words_in, found, lies_in}
 use Rattle.hx_lowering.proofs.At.{layout_of}

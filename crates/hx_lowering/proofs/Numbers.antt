@@ -11,7 +11,7 @@ use Rattle.hx_tree.specs.Numbers.{unary_value}
 use Rattle.hx_tree.specs.Tree.{Program, Item, Globals, Function, GlobalDecl, Shape, Scalar, Array}
 use Rattle.hx_tree.specs.Accepted.{AcceptsItem, AcceptsShape, AcceptsConstant, IsAccepted, shape_words, item_words}
 use Rattle.hx_tree.specs.Meaning.{item_globals, globals_of, opening_words, constant_value, array_words, InputFits}
-use Rattle.hx_check.specs.Resolve.{resolve}
+use Rattle.hx_resolved.specs.Resolve.{resolve}
 use Rattle.hx_code.specs.declared.word.Array as code_array
 use Rattle.hx_code.specs.Machine.{opening_machine, filled, counted}
 use Rattle.hx_lowering.specs.Draft.{code_of}

@@ -10,10 +10,10 @@ use Rattle.hx_tree.specs.Tree.{Program, Item, Globals, Function, GlobalDecl, Sha
 use Rattle.hx_tree.specs.World.{Map, look_up}
 use Rattle.hx_tree.specs.Meaning.{item_globals, opening_words, filled, counted, array_words}
 use Rattle.hx_tree.specs.Accepted.{Kind, item_kinds, kind_of_shape, shape_words, is_among, IsDistinct}
-use Rattle.hx_check.specs.declared.resolved.Words.{Words}
-use Rattle.hx_check.specs.declared.symbol.Symbol.{Symbol}
-use Rattle.hx_check.specs.declared.symbol.Symbol.TheVariants as symbol
-use Rattle.hx_check.specs.Symbols.{symbol_at, global_symbols, items_symbols}
+use Rattle.hx_resolved.specs.declared.program.Words.{Words}
+use Rattle.hx_resolved.specs.declared.symbol.Symbol.{Symbol}
+use Rattle.hx_resolved.specs.declared.symbol.Symbol.TheVariants as symbol
+use Rattle.hx_resolved.specs.Symbols.{symbol_at, global_symbols, items_symbols}
 use Rattle.hx_code.specs.Machine as code
 use Rattle.hx_lowering.specs.Lines.{array_of}
 use Rattle.hx_lowering.proofs.Globals.{store_from}

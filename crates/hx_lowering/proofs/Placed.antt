@@ -1,8 +1,8 @@
 -- Where the words of each function stand.
 use Rattle.std.proofs.Common.{◌≡◌, ℕ, zero, suc, ◌+◌, List, [], ◌∷◌, ◌++◌, length, Some, pos, refl, ap, subst, ◌∙◌, arith, length-append, append_assoc}
 use Rattle.std.specs.Prelude.{slice_get}
-use Rattle.hx_check.specs.Resolved as resolved
-use Rattle.hx_check.specs.Resolved.{Clauses, LoopKind}
+use Rattle.hx_resolved.specs.Resolved as resolved
+use Rattle.hx_resolved.specs.Resolved.{Clauses, LoopKind}
 use Rattle.hx_code.specs.declared.word.Word.TheVariants.{Const, Ret}
 use Rattle.hx_code.specs.Code.{CodeView, FuncView}
 use Rattle.hx_lowering.specs.Lines.{Version}

@@ -12,8 +12,8 @@ use Rattle.hx_tree.specs.Tree.{Program}
 use Rattle.hx_tree.specs.World.{World, Answer, Gives, Faults, Unfinished}
 use Rattle.hx_tree.specs.Meaning.{functions_of, run_function, main_of, main_context, opening_world, Ending, ending, ending_of_main, InputFits}
 use Rattle.hx_tree.specs.Accepted.{IsAccepted}
-use Rattle.hx_check.specs.Symbols.{symbols_of}
-use Rattle.hx_check.specs.Resolve.{resolve, function_number, or_else}
+use Rattle.hx_resolved.specs.Symbols.{symbols_of}
+use Rattle.hx_resolved.specs.Resolve.{resolve, function_number, or_else}
 use Rattle.hx_code.specs.Code.{CodeView, FuncView}
 use Rattle.hx_code.specs.Code as code
 use Rattle.hx_code.specs.Local.{blank}

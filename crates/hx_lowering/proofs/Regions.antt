@@ -12,12 +12,12 @@ use Rattle.hx_tree.specs.World.{World, Gives, Run, Environment, local_value, set
 use Rattle.hx_tree.specs.Value.{Calling}
 use Rattle.hx_tree.specs.Effect.{Exit, GoesOn, Effect, Context, call_in, value_or, step_of, loop}
 use Rattle.hx_tree.specs.Accepted.{Surroundings, AcceptsExpr, AcceptsAssignment, IfThere}
-use Rattle.hx_check.specs.Resolved as resolved
-use Rattle.hx_check.specs.Resolved.{Clauses, Simple}
-use Rattle.hx_check.specs.Symbols.{Scopes}
-use Rattle.hx_check.specs.declared.resolved.Induct as counted
-use Rattle.hx_check.specs.Counts.{step_counts}
-use Rattle.hx_check.specs.Carried.{expr_reads, assignment_reads, assigns, stmt_reads, stmt_assigns, if_any, is_induct, turns_read, turns_assign, turns_declare, region_of as region_taken}
+use Rattle.hx_resolved.specs.Resolved as resolved
+use Rattle.hx_resolved.specs.Resolved.{Clauses, Simple}
+use Rattle.hx_resolved.specs.Symbols.{Scopes}
+use Rattle.hx_resolved.specs.declared.program.Induct as counted
+use Rattle.hx_resolved.specs.Counts.{step_counts}
+use Rattle.hx_resolved.specs.Carried.{expr_reads, assignment_reads, assigns, stmt_reads, stmt_assigns, if_any, is_induct, turns_read, turns_assign, turns_declare, region_of as region_taken}
 use Rattle.hx_code.specs.declared.word.Word.TheVariants.{Enter, Turn, Leave}
 use Rattle.hx_code.specs.declared.word.Ask.TheVariants as ask
 use Rattle.hx_code.specs.declared.table.Carried.{Carried}

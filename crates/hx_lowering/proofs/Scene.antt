@@ -6,7 +6,7 @@ use Rattle.hx_tree.specs.Numbers.{is_zero}
 use Rattle.hx_tree.specs.Tree.{Program}
 use Rattle.hx_tree.specs.World.{World, Gives, Run, ◌>>=◌, unfinished, Environment, count_turn}
 use Rattle.hx_tree.specs.Effect.{Exit, GoesOn, Breaks, Continues, Returns, Effect, Context, goes_on, end_turn, loop}
-use Rattle.hx_check.specs.Symbols.{Scopes}
+use Rattle.hx_resolved.specs.Symbols.{Scopes}
 use Rattle.hx_code.specs.Code.{CodeView}
 use Rattle.hx_code.specs.Machine.{Machine}
 use Rattle.hx_lowering.specs.Lines.{Version, cell_of}

@@ -16,10 +16,10 @@ use Rattle.hx_tree.specs.World.{Map, declare, World, Answer, Gives, Faults, Unfi
 use Rattle.hx_tree.specs.Value.{value, values}
 use Rattle.hx_tree.specs.Effect.{Exit, GoesOn, Breaks, Continues, Returns, Effect, goes_on, go_on, inside as inside_context, is_counted, loop, step_of, call_in, value_or, declare_all, begin, effect, effects, assign}
 use Rattle.hx_tree.specs.Accepted.{Surroundings, AcceptsStmt, AcceptsParts, AcceptsExpr, AcceptsReturn, AcceptsInit, AcceptsLocals, after_init, with_name, with_local, with_locals, IfThere, in_scope, inside_loop, stmt_locals, parts_locals, init_locals, FunctionKind, count as tree_count}
-use Rattle.hx_check.specs.Symbols.{Scopes, symbols_of, with_word, with_words, words_after_init}
-use Rattle.hx_check.specs.Carried.{expr_reads, stmt_reads, stmts_read, clauses_read, any_of, if_any, assignment_reads, simple_reads, assigns, simple_assigns, simple_declares, stmt_assigns, stmts_assign, stmt_declares, stmts_declare, turns_read}
-use Rattle.hx_check.specs.Resolve as resolve
-use Rattle.hx_check.specs.Resolve.{resolve_expr, resolve_exprs, function_at, resolve_assignment, resolve_stmt, resolve_parts, expr_or_zero}
+use Rattle.hx_resolved.specs.Symbols.{Scopes, symbols_of, with_word, with_words, words_after_init}
+use Rattle.hx_resolved.specs.Carried.{expr_reads, stmt_reads, stmts_read, clauses_read, any_of, if_any, assignment_reads, simple_reads, assigns, simple_assigns, simple_declares, stmt_assigns, stmts_assign, stmt_declares, stmts_declare, turns_read}
+use Rattle.hx_resolved.specs.Resolve as resolve
+use Rattle.hx_resolved.specs.Resolve.{resolve_expr, resolve_exprs, function_at, resolve_assignment, resolve_stmt, resolve_parts, expr_or_zero}
 use Rattle.hx_code.specs.declared.word.Word.TheVariants.{Jump, JumpFalse, Print, Emit, Ret, Const, Call, Drop}
 use Rattle.hx_code.specs.declared.word.Output.TheVariants as output
 use Rattle.hx_code.specs.Code.{CodeView}

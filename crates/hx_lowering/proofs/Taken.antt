@@ -5,10 +5,10 @@ use Rattle.std.proofs.lemmas.Bool.{lt-ltb, ltb-true}
 use Rattle.std.proofs.lemmas.Bool.Decides.{Decides-eqb}
 use Rattle.std.proofs.lemmas.List.{length-replicate}
 use Rattle.hx_tree.specs.declared.limits.TheConstants.{CELL_LIMIT, PRIVATE_LIMIT}
-use Rattle.hx_check.specs.Resolved as resolved
-use Rattle.hx_check.specs.Resolved.{Clauses}
-use Rattle.hx_check.specs.declared.resolved.Induct as counted
-use Rattle.hx_check.specs.Carried.{if_any, any_of, assigns, stmt_assigns, simple_begins, kept_if, induct_of, is_induct, turns_read, turns_assign, turns_declare, is_carried, is_copied, region_of}
+use Rattle.hx_resolved.specs.Resolved as resolved
+use Rattle.hx_resolved.specs.Resolved.{Clauses}
+use Rattle.hx_resolved.specs.declared.program.Induct as counted
+use Rattle.hx_resolved.specs.Carried.{if_any, any_of, assigns, stmt_assigns, simple_begins, kept_if, induct_of, is_induct, turns_read, turns_assign, turns_declare, is_carried, is_copied, region_of}
 use Rattle.hx_code.specs.Local.{blank}
 use Rattle.hx_code.specs.declared.table.Induct.{Induct}
 use Rattle.hx_code.specs.Region.{copied_words, counter_at, with_counter}

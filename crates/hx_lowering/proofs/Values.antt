@@ -15,11 +15,11 @@ use Rattle.hx_tree.specs.Value.{Calling, value, values, operate}
 use Rattle.hx_tree.specs.declared.tree.Returns.{Returns}
 use Rattle.hx_tree.specs.declared.tree.Returns.TheVariants as returns
 use Rattle.hx_tree.specs.Accepted.{Surroundings, AcceptsExpr, AcceptsExprs, IntKind, FunctionKind, kind_of, kinds_of, count as tree_count}
-use Rattle.hx_check.specs.declared.resolved.Words.{Words}
-use Rattle.hx_check.specs.Resolved as resolved
-use Rattle.hx_check.specs.Symbols.{Scopes, private_word, symbols_of}
-use Rattle.hx_check.specs.Carried.{expr_reads, exprs_read}
-use Rattle.hx_check.specs.Resolve.{resolve_expr, resolve_exprs, function_at, variable, word_named, words_named}
+use Rattle.hx_resolved.specs.declared.program.Words.{Words}
+use Rattle.hx_resolved.specs.Resolved as resolved
+use Rattle.hx_resolved.specs.Symbols.{Scopes, private_word, symbols_of}
+use Rattle.hx_resolved.specs.Carried.{expr_reads, exprs_read}
+use Rattle.hx_resolved.specs.Resolve.{resolve_expr, resolve_exprs, function_at, variable, word_named, words_named}
 use Rattle.hx_code.specs.declared.word.Word.{Word}
 use Rattle.hx_code.specs.declared.word.Word.TheVariants.{Const, Priv, Glob, Elem, Unary, Binary, Jump, JumpFalse, JumpTrue, Call}
 use Rattle.hx_code.specs.declared.word.Ask.TheVariants as ask

@@ -7,7 +7,7 @@ use Rattle.hx_tree.specs.declared.limits.TheConstants.{PRIVATE_LIMIT}
 use Rattle.hx_tree.specs.declared.outcome.FaultKind.TheVariants.{IndexOutOfRange}
 use Rattle.hx_tree.specs.Tree.{Program, Name}
 use Rattle.hx_tree.specs.World.{Map, look_up, World, Answer, Run, and_then, ◌>>=◌, or_fault, words_of, with_word, set_word, write_element, replace_store}
-use Rattle.hx_check.specs.declared.resolved.Words.{Words}
+use Rattle.hx_resolved.specs.declared.program.Words.{Words}
 use Rattle.hx_code.specs.declared.word.Word.{Word}
 use Rattle.hx_code.specs.declared.word.Word.TheVariants.{SetPriv, SetGlob, SetElem}
 use Rattle.hx_code.specs.declared.word.Ask.TheVariants as ask

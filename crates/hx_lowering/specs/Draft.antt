@@ -1,12 +1,12 @@
 -- The words of statements, functions and whole programs, with their tables.
 use Rattle.std.specs.Prelude.{ℕ, ◌+◌, List, [], ◌∷◌, ◌++◌, length, map, pos, Some, None, option_map}
-use Rattle.hx_check.specs.Resolved as resolved
-use Rattle.hx_check.specs.Resolved.{Expr, Clauses, LoopKind, Stmt, Stmts, Function, Program}
+use Rattle.hx_resolved.specs.Resolved as resolved
+use Rattle.hx_resolved.specs.Resolved.{Expr, Clauses, LoopKind, Stmt, Stmts, Function, Program}
 use Rattle.hx_code.specs.declared.word.Word.{Word}
 use Rattle.hx_code.specs.declared.word.Word.TheVariants.{Const, Drop, Jump, JumpFalse, JumpTrue, Call, Ret, Print, Emit, Enter, Turn, Leave}
 use Rattle.hx_code.specs.declared.table.Carried.{Carried}
 use Rattle.hx_code.specs.declared.table.Induct.{Induct}
-use Rattle.hx_check.specs.declared.resolved.Induct as counted
+use Rattle.hx_resolved.specs.declared.program.Induct as counted
 use Rattle.hx_code.specs.Code.{FuncView, RegionView, CodeView}
 use Rattle.hx_lowering.specs.declared.line.Line.{Line}
 use Rattle.hx_lowering.specs.Size.{expr_size, test_size, turn_size, stmt_size}

@@ -1,7 +1,7 @@
 -- What holds of the code of every program.
 use Rattle.hx_tree.specs.Tree.{Program}
 use Rattle.hx_tree.specs.Accepted.{IsAccepted}
-use Rattle.hx_check.specs.Resolve.{resolve}
+use Rattle.hx_resolved.specs.Resolve.{resolve}
 use Rattle.hx_lowering.specs.Draft.{code_of}
 use Rattle.hx_lowering.specs.Correct.{Behaves}
 

@@ -1,9 +1,9 @@
 -- The words of expressions and assignments, put behind those that stand already.
 use Rattle.std.specs.Prelude.{ℕ, ◌+◌, if◌then◌else◌, nat_eq, List, [], ◌∷◌, ◌++◌, length, pos, Option, Some, None}
 use Rattle.hx_tree.specs.declared.tree.BinaryOp.TheVariants.{Strict, And, Or}
-use Rattle.hx_check.specs.declared.resolved.Words.{Words}
-use Rattle.hx_check.specs.Resolved as resolved
-use Rattle.hx_check.specs.Resolved.{Expr, Exprs, Assignment, Simple}
+use Rattle.hx_resolved.specs.declared.program.Words.{Words}
+use Rattle.hx_resolved.specs.Resolved as resolved
+use Rattle.hx_resolved.specs.Resolved.{Expr, Exprs, Assignment, Simple}
 use Rattle.hx_code.specs.declared.word.Array.{Array}
 use Rattle.hx_code.specs.declared.word.Word.{Word}
 use Rattle.hx_code.specs.declared.word.Word.TheVariants.{Const, Priv, SetPriv, Glob, SetGlob, Elem, SetElem, Dup, Unary, Binary, Jump, JumpFalse, JumpTrue, Call}

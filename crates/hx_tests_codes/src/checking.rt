@@ -2,7 +2,7 @@
 
 use crate::stages::{checked, compile};
 use hx_check::checked::Checked;
-use hx_check::resolved::{LoopKind, Program, Stmt, Words};
+use hx_resolved::program::{LoopKind, Program, Stmt, Words};
 use std::alloc::Global;
 use std::process::Abort;
 use std::test::Fail;

@@ -1,7 +1,7 @@
 use Rattle.std.proofs.lemmas.Result.{err_from_is_err_and}
 use Rattle.hx_tree.specs.View.{program_of}
-use Rattle.hx_check.specs.Views.{resolved_of}
-use Rattle.hx_check.specs.Resolve.{resolve}
+use Rattle.hx_resolved.specs.Views.{resolved_of}
+use Rattle.hx_resolved.specs.Resolve.{resolve}
 use Rattle.hx_check.specs.Reading.{check_program}
 use Rattle.hx_check.proofs.Steps.{same_ok}
 use Rattle.hx_check.proofs.Programs.{complete_program, sound_program, refuses_program}

@@ -1,7 +1,8 @@
 use Rattle.std.proofs.Common.{◌≡◌, [], drop, map}
 use Rattle.hx_tree.specs.Tree.{exprs}
 use Rattle.hx_tree.specs.View.{expr_of}
-use Rattle.hx_check.specs.Views.{symbols_in, scopes_of, resolved_exprs_in}
+use Rattle.hx_resolved.specs.Views.{resolved_exprs_in}
+use Rattle.hx_check.specs.Views.{symbols_in, scopes_of}
 use Rattle.hx_check.specs.Reading.{check_exprs}
 use Rattle.hx_check.proofs.expression.+expressions.Given as goal
 

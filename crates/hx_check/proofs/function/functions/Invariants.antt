@@ -1,6 +1,7 @@
 use Rattle.std.proofs.Common.{◌≡◌, [], drop, map}
 use Rattle.hx_tree.specs.View.{item_of}
-use Rattle.hx_check.specs.Views.{symbols_in, resolved_functions_in}
+use Rattle.hx_resolved.specs.Views.{resolved_functions_in}
+use Rattle.hx_check.specs.Views.{symbols_in}
 use Rattle.hx_check.specs.Reading.{check_functions}
 use Rattle.hx_check.proofs.function.functions.Given as goal
 

@@ -1,4 +1,4 @@
-use Rattle.hx_check.proofs.Nodes.{call_is}
+use Rattle.hx_resolved.proofs.Nodes.{call_is}
 use Rattle.hx_check.proofs.make.call.Goals as goal
 
 pub returns : goal.returns

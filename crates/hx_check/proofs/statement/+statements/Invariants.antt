@@ -1,7 +1,8 @@
 use Rattle.std.proofs.Common.{◌≡◌, [], drop, map}
 use Rattle.hx_tree.specs.Tree.{parts}
 use Rattle.hx_tree.specs.View.{part_of}
-use Rattle.hx_check.specs.Views.{symbols_in, known_of, resolved_stmts_in}
+use Rattle.hx_resolved.specs.Views.{resolved_stmts_in}
+use Rattle.hx_check.specs.Views.{symbols_in, known_of}
 use Rattle.hx_check.specs.Reading.{check_parts}
 use Rattle.hx_check.proofs.statement.+statements.Given as goal
 

@@ -1,6 +1,7 @@
 use Rattle.std.proofs.Common.{◌≡◌, [], drop, map}
 use Rattle.hx_tree.specs.View.{local_of}
-use Rattle.hx_check.specs.Views.{symbols_in, known_of, resolved_simples_in}
+use Rattle.hx_resolved.specs.Views.{resolved_simples_in}
+use Rattle.hx_check.specs.Views.{symbols_in, known_of}
 use Rattle.hx_check.specs.Reading.{check_locals}
 use Rattle.hx_check.proofs.statement.local_decls.Given as goal
 

@@ -1,5 +1,5 @@
 use Rattle.std.proofs.Common.{map, drop}
-use Rattle.hx_check.specs.Views.{resolved_simple}
+use Rattle.hx_resolved.specs.Views.{resolved_simple}
 use Rattle.hx_lower.proofs.Puts.{SimplesPut}
 use Rattle.hx_lower.proofs.assignment.put_simples.Given as goal
 

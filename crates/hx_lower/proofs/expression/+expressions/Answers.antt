@@ -1,6 +1,6 @@
 use Rattle.std.proofs.Common.{rules, ◌≡◌, map, ap, ◌∙◌, length}
-use Rattle.hx_check.specs.Resolved as resolved
-use Rattle.hx_check.specs.Views.{resolved_expr}
+use Rattle.hx_resolved.specs.Resolved as resolved
+use Rattle.hx_resolved.specs.Views.{resolved_expr}
 use Rattle.hx_lowering.specs.Lines.{count}
 use Rattle.hx_lower.proofs.Nodes.{call_is, count_is}
 use Rattle.hx_lower.proofs.expression.+expressions.Goals as goal

@@ -1,5 +1,5 @@
 use Rattle.std.proofs.Common.{map, drop}
-use Rattle.hx_check.specs.Views.{resolved_expr}
+use Rattle.hx_resolved.specs.Views.{resolved_expr}
 use Rattle.hx_lower.proofs.Puts.{ArePut}
 use Rattle.hx_lower.proofs.expression.+expressions.Given as goal
 

@@ -1,6 +1,6 @@
 use Rattle.std.proofs.Common.{◌≡◌, ◌∙◌, true, false}
 use Rattle.hx_tree.specs.View.{program_of}
-use Rattle.hx_check.specs.Views.{resolved_of}
+use Rattle.hx_resolved.specs.Views.{resolved_of}
 use Rattle.hx_lower.proofs.Codes.{is_valid, does}
 use Rattle.hx_lower.proofs.lowering.lower.Goals as goal
 

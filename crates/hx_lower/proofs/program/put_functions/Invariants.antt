@@ -1,5 +1,5 @@
 use Rattle.std.proofs.Common.{map, drop}
-use Rattle.hx_check.specs.Views.{resolved_function}
+use Rattle.hx_resolved.specs.Views.{resolved_function}
 use Rattle.hx_lower.proofs.Puts.{FunctionsPut}
 use Rattle.hx_lower.proofs.program.put_functions.Given as goal
 

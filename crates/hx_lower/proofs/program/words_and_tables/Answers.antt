@@ -1,5 +1,5 @@
 use Rattle.std.proofs.Common.{refl}
-use Rattle.hx_check.specs.Views.{resolved_of}
+use Rattle.hx_resolved.specs.Views.{resolved_of}
 use Rattle.hx_lowering.specs.Draft.{draft_of}
 use Rattle.hx_lower.proofs.Codes.{assembled}
 use Rattle.hx_lower.proofs.program.words_and_tables.Goals as goal

@@ -1,5 +1,5 @@
 use Rattle.std.proofs.Common.{◌≡◌, ◌+◌, ◌<◌, map, drop}
-use Rattle.hx_check.specs.Views.{resolved_simple}
+use Rattle.hx_resolved.specs.Views.{resolved_simple}
 use Rattle.hx_lowering.specs.Size as size
 use Rattle.hx_lower.proofs.size.simples_size.Given as goal
 

@@ -1,5 +1,5 @@
 use Rattle.std.proofs.Common.{map, drop}
-use Rattle.hx_check.specs.Views.{resolved_stmt}
+use Rattle.hx_resolved.specs.Views.{resolved_stmt}
 use Rattle.hx_lower.proofs.Puts.{StmtsPut}
 use Rattle.hx_lower.proofs.statement.+statements.Given as goal
 

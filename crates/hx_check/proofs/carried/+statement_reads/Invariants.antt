@@ -1,8 +1,0 @@
-use Rattle.std.proofs.Common.{◌≡◌, drop, map}
-use Rattle.hx_check.specs.Resolved.{stmts}
-use Rattle.hx_check.specs.Views.{resolved_stmt}
-use Rattle.hx_check.specs.Carried.{stmts_read}
-use Rattle.hx_check.proofs.carried.+statement_reads.Given as goal
-
-abbrev pub invariant-stmts_read-loop-s : goal.invariant-stmts_read-loop-s
-invariant-stmts_read-loop-s l = stmts_read l.k (stmts (map resolved_stmt l.ss)) ≡ stmts_read l.k (stmts (map resolved_stmt (drop l.s-index l.ss)))

@@ -1,8 +1,0 @@
-use Rattle.std.proofs.Common.{◌≡◌}
-use Rattle.std.specs.List.{range_with_len, filter}
-use Rattle.hx_check.specs.Views.{resolved_clauses, resolved_stmt}
-use Rattle.hx_check.specs.Carried.{is_carried}
-use Rattle.hx_check.proofs.carried.carried_words.Given as goal
-
-abbrev pub invariant-loop-k : goal.invariant-loop-k
-invariant-loop-k l = l.words.items ≡ filter (is_carried (resolved_clauses l.c) (resolved_stmt l.body)) (range_with_len 0 l.k)

@@ -1,8 +1,0 @@
-use Rattle.std.proofs.Common.{◌≡◌, drop, map}
-use Rattle.hx_check.specs.Views.{resolved_simple}
-use Rattle.hx_check.specs.Carried.{any_of, simple_declares}
-use Rattle.hx_check.proofs.carried.init_declares.Given as goal
-
-abbrev pub invariant-loop-s : goal.invariant-loop-s
-invariant-loop-s l =
-    any_of (simple_declares l.k) (map resolved_simple l.init) ≡ any_of (simple_declares l.k) (map resolved_simple (drop l.s-index l.init))

@@ -1,0 +1,2 @@
+pub mod Nodes
+mod Filters
