@@ -10,8 +10,8 @@ ghost use Rattle.hx_check.specs.Views.{pair_of, symbols_in, declared_of};
 ghost use Rattle.hx_check.specs.Reading.{IsReading, IsReadingNext, check_free, constants_fit, shape_fits, declare_global, declare_function, declare_globals, declare_items, nothing_declared, check_main, same};
 
 use crate::error::CheckError;
-use hx_resolved::symbol::Symbol;
 use crate::table::Symbols;
+use hx_resolved::symbol::Symbol;
 use hx_tree::limits::{ARRAY_LIMIT, CONSTANT_LIMIT, FUNCTION_LIMIT, GLOBAL_LIMIT, PARAMETER_LIMIT};
 use hx_tree::tree::{Constant, Func, GlobalDecl, Item, Name, Params, Returns, Shape};
 use indexmap::IndexMap;

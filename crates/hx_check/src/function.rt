@@ -16,9 +16,9 @@ use crate::here::Here;
 use crate::locals::{Locals, Scope, Scopes};
 use crate::need::function_need;
 use crate::privates::private_words;
-use hx_resolved::program::Function;
 use crate::statement::statements;
 use crate::table::Symbols;
+use hx_resolved::program::Function;
 use hx_tree::tree::{Func, Item, Name};
 use std::alloc::{AllocError, Global};
 

@@ -8,9 +8,9 @@ ghost use Rattle.hx_check.specs.Reading.{check_variable, check_array, check_call
 
 use crate::error::CheckError;
 use crate::locals::{Scopes, private_word};
+use crate::table::Symbols;
 use hx_resolved::program::{Expr, Place, Words};
 use hx_resolved::symbol::Symbol;
-use crate::table::Symbols;
 use hx_tree::tree::{Name, Returns};
 
 /// An int that can be read and assigned: a private word of the function, or a store word.

@@ -11,7 +11,6 @@ ghost use Rattle.hx_resolved.specs.Views.{resolved_expr, resolved_clauses, resol
 ghost use Rattle.hx_check.specs.Views.{symbols_in, scopes_of, known_of};
 ghost use Rattle.hx_check.specs.Reading.{IsReading, IsReadingNow, check_locals, check_init, check_clauses, check_return, check_stmt, check_part, check_parts, make_loop};
 
-use hx_resolved::carried::region_of;
 use crate::counter::step_counts;
 use crate::error::CheckError;
 use crate::expression::{arguments, assignment, expression, step, test, value_or_zero};
@@ -19,8 +18,9 @@ use crate::here::Here;
 use crate::locals::{Locals, Scopes};
 use crate::make::block;
 use crate::names::function_named;
-use hx_resolved::program::{Clauses, Expr, LoopKind, Simple, Stmt};
 use crate::table::Symbols;
+use hx_resolved::carried::region_of;
+use hx_resolved::program::{Clauses, Expr, LoopKind, Simple, Stmt};
 use hx_tree::token::Pos;
 use hx_tree::tree;
 use hx_tree::tree::{LocalDecl, Name, Returns};

@@ -7,8 +7,8 @@ ghost use Rattle.hx_lowering.specs.Lines as lines;
 
 use crate::draft::{Drafted, Version, array_of};
 use crate::expression::{put_expr, put_part};
-use hx_resolved::program::{Assignment, Expr, Place, Simple};
 use hx_code::word::Word;
+use hx_resolved::program::{Assignment, Expr, Place, Simple};
 use std::alloc::AllocError;
 
 /// Puts the words of an assignment.

@@ -4,11 +4,11 @@ ghost use Rattle.std.specs.Prelude.{◌≡◌, ◌+◌, ◌<◌, ◌≤◌, ◌^
 ghost use Rattle.hx_lowering.specs.Draft.{with_lines, plain_version, cells_from, counter_of};
 ghost use Rattle.hx_lowering.specs.Lines as lines;
 
-use hx_resolved::program::{Induct, Words};
 use hx_code::table;
 use hx_code::table::{Carried, Func, Region, Spot};
 use hx_code::word::{Array, Word};
 use hx_lowering::line::Line;
+use hx_resolved::program::{Induct, Words};
 use std::alloc::{AllocError, Global};
 use std::marker::Model;
 

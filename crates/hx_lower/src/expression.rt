@@ -11,8 +11,8 @@ ghost use Rattle.hx_lowering.specs.Size as size;
 use crate::draft::{Drafted, Version, array_of};
 use crate::size::expr_size;
 use crate::target::{behind, counted};
-use hx_resolved::program::Expr;
 use hx_code::word::Word;
+use hx_resolved::program::Expr;
 use hx_tree::tree::BinaryOp;
 use std::alloc::AllocError;
 

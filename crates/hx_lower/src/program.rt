@@ -9,9 +9,9 @@ ghost use Rattle.hx_lowering.specs.Lines as lines;
 use crate::draft::{Drafted, Version, array_of};
 use crate::statement::put_stmts;
 use crate::target::Targets;
-use hx_resolved::program::{Function, Program, Words};
 use hx_code::table::{Func, Tables};
 use hx_code::word::{Array, Word};
+use hx_resolved::program::{Function, Program, Words};
 use std::alloc::{AllocError, Global};
 
 /// Puts the words of a function, whose end returns 0, and the function behind the others.

@@ -14,10 +14,10 @@ use crate::draft::{Drafted, Version, cells_of, counter_of};
 use crate::expression::{put_call, put_part};
 use crate::size::stmt_size;
 use crate::target::{Targets, behind_if, counted, places_of_else, places_of_region};
-use hx_resolved::program::{Clauses, Expr, LoopKind, Region, Stmt};
 use hx_code::table;
 use hx_code::table::Carried;
 use hx_code::word::Word;
+use hx_resolved::program::{Clauses, Expr, LoopKind, Region, Stmt};
 use std::alloc::{AllocError, Global};
 
 /// Puts the words of a statement, whose `break` and `continue` go to these places.
