@@ -1,9 +1,8 @@
 -- The words of a `do` keep the rules, where its body's words do.
-use Rattle.std.proofs.Common.{◌≡◌, ℕ, ◌+◌, length, refl, arith}
+use Rattle.std.proofs.Common.{ℕ, length, refl, arith}
 use Rattle.hx_resolved.specs.Resolved.{Expr}
 use Rattle.hx_code.specs.declared.word.Word.TheVariants.{JumpTrue}
 use Rattle.hx_code.specs.Code.{CodeView}
-use Rattle.hx_lowering.specs.Size.{expr_size}
 use Rattle.hx_lowering.specs.Lines.{Version, expr_lines}
 use Rattle.hx_lowering.specs.Draft.{Draft, Targets, do_targets, do_draft}
 use Rattle.hx_lowering.proofs.Stand.{has_before, spot_stands, length-put, length-expr}

@@ -1,9 +1,9 @@
 -- The words of a `do` do what it does.
-use Rattle.std.proofs.Common.{◌≡◌, ℕ, zero, suc, ◌+◌, ◌≤◌, Bool, true, false, List, [], ◌∷◌, length, ℤ, pos, refl, sym, ap, subst, arith, if◌then◌else◌}
+use Rattle.std.proofs.Common.{◌≡◌, ℕ, zero, suc, ◌+◌, ◌≤◌, Bool, true, false, List, [], ◌∷◌, length, ℤ, refl, sym, ap, subst, arith, if◌then◌else◌}
 use Rattle.hx_tree.specs.Numbers.{is_zero}
 use Rattle.hx_tree.specs.Tree as tree
 use Rattle.hx_tree.specs.Tree.{Program}
-use Rattle.hx_tree.specs.World.{World, Run, ◌>>=◌, gives, unfinished, Environment}
+use Rattle.hx_tree.specs.World.{World, ◌>>=◌, gives, unfinished, Environment}
 use Rattle.hx_tree.specs.Value.{Calling, value}
 use Rattle.hx_tree.specs.Effect.{Exit, GoesOn, Breaks, Continues, Returns, Effect, call_in, goes_on, end_turn, loop}
 use Rattle.hx_tree.specs.Accepted.{Surroundings, AcceptsExpr}
@@ -18,8 +18,8 @@ use Rattle.hx_code.specs.Code.{CodeView}
 use Rattle.hx_code.specs.Machine.{Machine}
 use Rattle.hx_lowering.specs.declared.line.Line.{Line}
 use Rattle.hx_lowering.specs.Lines.{expr_lines}
-use Rattle.hx_lowering.specs.Size.{expr_size, stmt_size}
-use Rattle.hx_lowering.specs.Draft.{Draft, Targets, put_word, with_lines, do_targets, stmt_draft}
+use Rattle.hx_lowering.specs.Size.{stmt_size}
+use Rattle.hx_lowering.specs.Draft.{Draft, Targets, do_targets, stmt_draft}
 use Rattle.hx_lowering.proofs.Globals.{words_in}
 use Rattle.hx_lowering.proofs.Follow.{Follows, follows_then, follows_fewer, at_once}
 use Rattle.hx_lowering.proofs.Stand.{Has, has_before, has_expr, word_stands, length-put, length-expr}
