@@ -14,7 +14,7 @@ use hx_resolved::symbol::Symbol;
 use hx_tree::tree::{Name, Returns};
 
 /// An int that can be read and assigned: a private word of the function, or a store word.
-#[derive(Clone, Copy, PartialEq, Eq, Debug)]
+#[derive(Clone, Copy)]
 pub enum Variable {
     Private(u32),
     Word(u32),

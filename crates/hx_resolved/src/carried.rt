@@ -389,10 +389,9 @@ fn copied_words(
     Ok(words)
 }
 
-/// The region of a marked loop, in a function with so many private words, of which the loop's clauses and body name none
-/// from there on: those that its turns assign are carried, those that they only read are copied, and the induction local,
-/// if there is one, is in neither list. `Err` where memory runs out (loops that carry and copy locals: Hammond, Willey and
-/// Olukotun, ASPLOS 1998).
+/// The region of a marked loop in a function with so many private words: of these it carries those that the loop's turns
+/// assign and don't declare, and copies those that they only read; the induction local, if there is one, is in neither
+/// list. `Err` where memory runs out. Loops that carry and copy locals: Hammond, Willey and Olukotun, ASPLOS 1998.
 pub fn region_of(
     alloc: Global,
     privates: u32,

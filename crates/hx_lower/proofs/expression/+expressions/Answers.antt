@@ -2,7 +2,8 @@ use Rattle.std.proofs.Common.{rules, ◌≡◌, map, ap, ◌∙◌, length}
 use Rattle.hx_resolved.specs.Resolved as resolved
 use Rattle.hx_resolved.specs.Views.{resolved_expr}
 use Rattle.hx_lowering.specs.Lines.{count}
-use Rattle.hx_lower.proofs.Nodes.{call_is, count_is}
+use Rattle.hx_resolved.proofs.Nodes.{call_is}
+use Rattle.hx_lower.proofs.Nodes.{count_is}
 use Rattle.hx_lower.proofs.expression.+expressions.Goals as goal
 
 pub put_expr-returns-in-Call-clause-words : goal.put_expr-returns-in-Call-clause-words

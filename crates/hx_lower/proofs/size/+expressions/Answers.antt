@@ -2,7 +2,7 @@ use Rattle.std.proofs.Common.{rules, ◌≡◌, map, ap, ◌∙◌, ◌+◌}
 use Rattle.hx_resolved.specs.Resolved.{exprs}
 use Rattle.hx_resolved.specs.Views.{resolved_expr}
 use Rattle.hx_lowering.specs.Size as size
-use Rattle.hx_lower.proofs.Nodes.{call_is}
+use Rattle.hx_resolved.proofs.Nodes.{call_is}
 use Rattle.hx_lower.proofs.size.+expressions.Goals as goal
 
 pub expr_size-returns-in-Call : goal.expr_size-returns-in-Call

@@ -2,7 +2,7 @@ use Rattle.std.proofs.Common.{rules, ◌≡◌, map, ap, ◌∙◌}
 use Rattle.hx_resolved.specs.Resolved.{stmts}
 use Rattle.hx_resolved.specs.Views.{resolved_stmt}
 use Rattle.hx_lowering.specs.Size as size
-use Rattle.hx_lower.proofs.Nodes.{block_is}
+use Rattle.hx_resolved.proofs.Nodes.{block_is}
 use Rattle.hx_lower.proofs.size.+statements.Goals as goal
 
 pub stmt_size-returns-in-Block : goal.stmt_size-returns-in-Block

@@ -2,7 +2,8 @@ use Rattle.std.proofs.Common.{rules, ◌≡◌, map, ap, ◌∙◌, length}
 use Rattle.hx_resolved.specs.Resolved as resolved
 use Rattle.hx_resolved.specs.Views.{resolved_expr, resolved_stmt}
 use Rattle.hx_lowering.specs.Lines.{count}
-use Rattle.hx_lower.proofs.Nodes.{block_is, count_is}
+use Rattle.hx_resolved.proofs.Nodes.{block_is}
+use Rattle.hx_lower.proofs.Nodes.{count_is}
 use Rattle.hx_lower.proofs.statement.+statements.Goals as goal
 
 pub put_stmt-returns-in-Block : goal.put_stmt-returns-in-Block
