@@ -2,35 +2,11 @@
 use Rattle.std.proofs.Common.{◌≡◌, ℕ, suc, ◌+◌, ◌≤◌, ◌<◌, Bool, true, false, List, [], ◌∷◌, length, Option, Some, None, refl, sym, ap, subst, ◌∙◌, arith, if◌then◌else◌}
 use Rattle.std.specs.Prelude.{bytes_eq, is_some}
 use Rattle.hx_tree.specs.Tree.{Name, LocalDecl, Init, NoInit, InitLocals, InitAssign}
-use Rattle.hx_tree.specs.World.{Map, look_up, first_of}
+use Rattle.hx_tree.specs.World.{look_up, first_of}
 use Rattle.hx_tree.specs.Meaning.{texts_of}
-use Rattle.hx_tree.specs.Accepted.{Kind, IntKind, Surroundings, is_among, is_local, with_name, with_local, with_locals, after_init, kind_of, init_locals}
+use Rattle.hx_tree.specs.Accepted.{Kind, IntKind, Surroundings, is_local, with_name, with_local, with_locals, after_init, kind_of, init_locals}
 use Rattle.hx_resolved.specs.Symbols.{Scopes, private_word, with_word, with_words, words_after_init, numbered}
-
-abbrev pub names_in : Map ℕ → List (List ℕ)
-names_in [] = []
-names_in ((x, k) ∷ rest) = x ∷ names_in rest
-
-abbrev pub names_of : Scopes → List (List (List ℕ))
-names_of [] = []
-names_of (scope ∷ outer) = names_in scope ∷ names_of outer
-
-is_in : (scope : Map ℕ) (x : List ℕ) → is_among x (names_in scope) ≡ is_some (look_up scope x)
-is_in [] x = refl
-is_in ((y, k) ∷ rest) x = go (is_in rest x) (bytes_eq y x)
-  where
-    go : is_among x (names_in rest) ≡ is_some (look_up rest x) → (b : Bool) → (if b then true else is_among x (names_in rest)) ≡ is_some (if b then Some k else look_up rest x)
-    go next true = refl
-    go next false = next
-
-is_its : (scopes : Scopes) (x : List ℕ) → is_local x (names_of scopes) ≡ is_some (private_word scopes x)
-is_its [] x = refl
-is_its (scope ∷ outer) x =
-    ap (λ b. if b then true else is_local x (names_of outer)) (is_in scope x) ∙ go (is_its outer x) (look_up scope x)
-  where
-    go : is_local x (names_of outer) ≡ is_some (private_word outer x) → (o : Option ℕ) → (if is_some o then true else is_local x (names_of outer)) ≡ is_some (first_of o (private_word outer x))
-    go next (Some k) = refl
-    go next None = next
+use Rattle.hx_lowering.proofs.Names.{names_in, names_of, is_its}
 
 -- the names of the surroundings are those of the scopes, whose private words are below n
 pub record Here (n : ℕ) (locals : List (List (List ℕ))) (scopes : Scopes) : Type 0 where
