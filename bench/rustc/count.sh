@@ -1,7 +1,8 @@
 #!/usr/bin/env bash
 # Builds the plain machine of the crates as rustc compiles their bodies, without contracts, and counts what programs take by
-# valgrind's callgrind. Nothing is proved of what it builds: it tells within a minute whether a body is worth its proof. It takes some
-# tenth more than the proved program, since rustc leaves checks in that the proof makes needless.
+# valgrind's callgrind. Nothing is proved of what it builds: it tells within a minute whether a body may be worth its proof. It takes a
+# tenth to a half more than the proved program, since rustc leaves checks in that the proof makes needless, and it has other values in
+# registers: a loop that was 2% slower here was 20% slower there. So count the proved program too, by ../instructions.sh.
 #
 #   bench/rustc/count.sh [--crates FOLDER] LISTING..     listings of `hydra words`; FOLDER in place of ../../crates
 set -euo pipefail
