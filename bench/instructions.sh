@@ -35,8 +35,9 @@ for folder in programs shapes others; do
     wanted "$name" "$@" || continue
     ours=$(count_of "$hydra" plain "$source" --steps 10000000000)
     cp "$work/printed" "$work/ours"
-    # a loop whose counter is carried has the Lua of the one whose counter is computed
-    theirs=$(count_of lua5.4 "$folder/${name%_carried}.lua")
+    # a loop whose counter is carried, or whose main has more locals, has the Lua of the one without
+    plain=${name%_carried}
+    theirs=$(count_of lua5.4 "$folder/${plain%_locals}.lua")
     cmp -s "$work/printed" "$work/ours" || { echo "$name: Lua prints something else" >&2; exit 1; }
     ratio=$(awk "BEGIN { printf \"%.2f\", $theirs / $ours }")
     ratios="$ratios $ratio"
