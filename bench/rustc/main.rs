@@ -6,6 +6,7 @@ mod hx_cells;
 mod hx_code;
 mod hx_exec;
 mod hx_instruction;
+mod hx_loops;
 mod hx_table;
 mod hx_tree;
 mod hx_word;

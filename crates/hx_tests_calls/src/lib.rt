@@ -1,7 +1,9 @@
-//! The tests of codes with cells as private words, and of the calls that do words, by public calls.
+//! The tests of codes with cells as private words or with jumps for turns, and of the calls that do words, by public calls.
 #![tactic(auto)]
 
 #[cfg(test)]
 mod calls;
 #[cfg(test)]
 mod cells;
+#[cfg(test)]
+mod loops;
