@@ -7,3 +7,5 @@ mod calls;
 mod cells;
 #[cfg(test)]
 mod loops;
+#[cfg(test)]
+mod regions;
