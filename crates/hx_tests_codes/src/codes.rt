@@ -9,7 +9,6 @@ use hx_code::validate::validate;
 use hx_code::word::{Array, Ask, Output, Word};
 use hx_exec::executable::Executable;
 use hx_exec::local::Local;
-use hx_instruction::instruction::Instruction;
 use hx_tree::limits::PRIVATE_LIMIT;
 use hx_tree::outcome::{Fault, FaultKind};
 use hx_tree::token::Pos;
@@ -617,29 +616,5 @@ fn an_iteration_asks_for_its_words(rt: HostRuntime) -> Result<(), Fail> {
     let wanted = (Ask::Loads(0), [1, 0], [0, 5]);
     assert_eq!(rt; iteration_asks(rt.alloc(), &code)?, wanted);
     assert_eq!(rt; iteration_goes_on(rt.alloc(), &code)?, Ask::Goes);
-    Ok(())
-}
-
-// How many instructions that aren't stops the code of a source has.
-fn instructions_of(alloc: Global, source: &[u8]) -> Result<usize, Fail> {
-    match compile(alloc, source) {
-        Err(_) => Err(Fail::from("refused")),
-        Ok(code) => {
-            let executable = Executable::new(alloc, code)?;
-            let lines = executable.listing().lines.iter();
-            Ok(
-                lines
-                    .filter(|line| !matches!(line.instruction, Instruction::Stop))
-                    .count(),
-            )
-        }
-    }
-}
-
-// The 21 words of this main are nine instructions, and none goes by itself.
-#[test]
-fn lowered_code_has_instructions(rt: HostRuntime) -> Result<(), Fail> {
-    let source = b"int total; int main(){ int sum=0; for(int i=0;i<10;i++) sum=sum+i; total=sum; }";
-    assert_eq!(rt; instructions_of(rt.alloc(), source)?, 9);
     Ok(())
 }

@@ -9,3 +9,5 @@ mod codes;
 mod listings;
 #[cfg(test)]
 mod stages;
+#[cfg(test)]
+mod tables;
