@@ -72,6 +72,17 @@ fn a_branch_on_a_remainder_is_one(rt: HostRuntime) -> Result<(), Fail> {
     )
 }
 
+// `i<n` and its branch, of four words, are one of them, where n is a global.
+#[test]
+fn a_branch_on_a_global_is_one(rt: HostRuntime) -> Result<(), Fail> {
+    are(
+        &rt,
+        rt.alloc(),
+        b"int n; int main(){ int s=0; for(int i=0;i<n;i++) s=s+i; return s; }",
+        10,
+    )
+}
+
 // `a[1]=5`, `a[1]`, `a[2]`, the sum and its return, and the two words at the end of each function.
 #[test]
 fn an_element_whose_index_is_a_number_is_one(rt: HostRuntime) -> Result<(), Fail> {
