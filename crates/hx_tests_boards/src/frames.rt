@@ -65,27 +65,35 @@ fn adds_one(rt: &impl Abort, frame: &mut Frame<'_>) {
     stops(rt, frame, 1024, Stop::NeedHead(Action::TurnEnd));
 }
 
+// Room for one word that is read, and for one that is written.
+const ROOM: Capacities = Capacities {
+    marks: 1,
+    buffer: 1,
+};
+
+const TAG: Tag = Tag {
+    worker: 1,
+    iteration: 5,
+    attempt: 2,
+};
+
+// A turn of the only region, which counts.
+fn counts_once(rt: &impl Abort, alloc: Global, code: &Executable) -> Result<(), Fail> {
+    let start = start_of(alloc, code)?;
+    let mut frame = Frame::new(alloc, code, ROOM)?;
+    frame.restart(&start);
+    frame.tag(1, 5, 2);
+    adds_one(rt, &mut frame);
+    has(rt, &frame, 0, Some(0), Some(1));
+    shows(rt, &frame, Action::TurnEnd, 1, 1);
+    is_tagged(rt, &frame, TAG, ROOM);
+    Ok(())
+}
+
 #[test]
 fn a_turn_asks_for_one_load_and_one_store(rt: HostRuntime) -> Result<(), Fail> {
     let code = code_of(rt.alloc(), COUNTS)?;
-    let start = start_of(rt.alloc(), &code)?;
-    let room = Capacities {
-        marks: 1,
-        buffer: 1,
-    };
-    let tag = Tag {
-        worker: 1,
-        iteration: 5,
-        attempt: 2,
-    };
-    let mut frame = Frame::new(rt.alloc(), &code, room)?;
-    frame.restart(&start);
-    frame.tag(1, 5, 2);
-    adds_one(&rt, &mut frame);
-    has(&rt, &frame, 0, Some(0), Some(1));
-    shows(&rt, &frame, Action::TurnEnd, 1, 1);
-    is_tagged(&rt, &frame, tag, room);
-    Ok(())
+    counts_once(&rt, rt.alloc(), &code)
 }
 
 // A turn that waits at each thing that it asks for, and goes on behind it.
@@ -106,21 +114,23 @@ fn waits(rt: &impl Abort, frame: &mut Frame<'_>) {
     stops(rt, frame, 1024, Stop::NeedHead(Action::None));
 }
 
+// A turn of the only region, which waits.
+fn waits_once(rt: &impl Abort, alloc: Global, code: &Executable) -> Result<(), Fail> {
+    let start = start_of(alloc, code)?;
+    let mut frame = Frame::new(alloc, code, ROOM)?;
+    frame.restart(&start);
+    waits(rt, &mut frame);
+    shows(rt, &frame, Action::None, 1, 1);
+    Ok(())
+}
+
 #[test]
 fn what_waits_goes_on_behind(rt: HostRuntime) -> Result<(), Fail> {
     let code = code_of(
         rt.alloc(),
         b"int c; int main(){ pwhile(c<1){ print(c); emit(65); c=5; } }",
     )?;
-    let room = Capacities {
-        marks: 1,
-        buffer: 1,
-    };
-    let mut frame = Frame::new(rt.alloc(), &code, room)?;
-    frame.restart(&start_of(rt.alloc(), &code)?);
-    waits(&rt, &mut frame);
-    shows(&rt, &frame, Action::None, 1, 1);
-    Ok(())
+    waits_once(&rt, rt.alloc(), &code)
 }
 
 // Whether a source has the same code as another.
@@ -159,10 +169,15 @@ fn is_no_run(rt: &impl Abort, alloc: Global, code: &Executable, start: &Local) -
     Ok(())
 }
 
+// The state in which an iteration of a code begins, beside two others.
+fn compares(rt: &impl Abort, alloc: Global, code: &Executable) -> Result<(), Fail> {
+    let start = start_of(alloc, code)?;
+    begins_so(rt, alloc, &start)?;
+    is_no_run(rt, alloc, code, &start)
+}
+
 #[test]
 fn states_are_compared_by_their_parts(rt: HostRuntime) -> Result<(), Fail> {
     let code = code_of(rt.alloc(), COUNTS)?;
-    let start = start_of(rt.alloc(), &code)?;
-    begins_so(&rt, rt.alloc(), &start)?;
-    is_no_run(&rt, rt.alloc(), &code, &start)
+    compares(&rt, rt.alloc(), &code)
 }
