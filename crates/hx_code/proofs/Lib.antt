@@ -7,3 +7,4 @@ pub mod Counters
 pub mod Regions
 pub mod Validation
 pub mod Alike
+pub mod SameWord
