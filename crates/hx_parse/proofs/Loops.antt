@@ -1,6 +1,7 @@
 -- The loops of the parser: what is read so far, and what reading goes on to give.
-use Rattle.std.proofs.Common.{◌≡◌, ℕ, zero, suc, ◌+◌, ◌-◌, ◌<◌, ◌≤◌, max, Bool, true, false, cond, List, [], ◌∷◌, ◌++◌, length, Option, Some, None, Result, Ok, Err, refl, sym, ap, subst, ◌∙◌, arith, append_assoc}
-use Rattle.std.specs.Prelude.{nat_lt, nat_le}
+use Rattle.std.proofs.Common.{◌≡◌, ℕ, zero, suc, ◌+◌, ◌-◌, ◌<◌, ◌≤◌, max, Bool, true, false, cond, List, [], ◌∷◌, ◌++◌, length, map, Option, Some, None, Result, Ok, Err, refl, sym, ap, ◌∙◌, arith, append_assoc}
+use Rattle.std.specs.Prelude.{nat_lt, nat_le, IfOk, IfErr, OnOk}
+use Rattle.std.proofs.lemmas.List.{map_push}
 use Rattle.std.proofs.lemmas.Bool.{lt-ltb, le-ltb, le-leb, lt-leb}
 use Rattle.hx_tree.specs.declared.token.Pos.{Pos}
 use Rattle.hx_tree.specs.declared.token.Mark.{Mark}
@@ -14,7 +15,7 @@ use Rattle.hx_grammar.specs.Reading as reading
 use Rattle.hx_grammar.specs.Reading.{◌>>=◌, Reading, Reader, Refusal, behind, Turn, Further, Ends, at_comma, until, until_end, turned, many, all_of, listed, listed_from, operator_at, Below, arguments_at, expect, operand_at, chain, chained_at, arms_at, question_at, choice_turn, expr_at}
 use Rattle.hx_parse.specs.declared.error.ParseError.{ParseError}
 use Rattle.hx_parse.specs.declared.error.ParseError.TheVariants.{Syntax, TooDeep, Memory}
-use Rattle.hx_parse.specs.Gives.{Fails}
+use Rattle.hx_parse.specs.Gives.{Fails, Gives, Stops, StaysOpen, Extends, itself}
 use Rattle.hx_parse.proofs.Marks.{behind_shorter}
 
 -- ---- a refusal goes through what comes behind it
@@ -23,6 +24,28 @@ pub fails_then : {X Y : Type 0} (e : ParseError) (read : Result X Refusal) (f : 
 fails_then (Syntax pos) read f h = rw h refl
 fails_then TooDeep read f h = rw h refl
 fails_then Memory read f h = tt
+
+-- what is made of a value is refused as its reading is
+pub stops_fails : {X Y : Type 0} (view : X → Y) (value : Result X ParseError) (to : List Token) (read : Reading Y) (e : ParseError) → Gives view value to read → Stops value e → Fails e read
+stops_fails view (Ok x) to read e h s = rw s tt
+stops_fails view (Err f) to read e h s = rw s h
+
+-- so is a value with a mark behind it
+pub open_fails : {X Y Z : Type 0} (view : X → Y) (value : Result X ParseError) (to : List Token) (read : Reading Y) (m : Mark) (made : Y × List Token → List Token → Result Z Refusal) (e : ParseError)
+    → Gives view value to read → StaysOpen value (expect m to) e → Fails e (read >>= λ x. expect m x.1 >>= λ rest. made x rest)
+open_fails view (Ok x) to read m made e h s = rw h (fails_then e (expect m to) (λ rest. made (view x, to) rest) s)
+open_fails view (Err f) to read m made e h s = rw s (fails_then f read (λ x. expect m x.1 >>= λ rest. made x rest) h)
+
+pub closed_gives : {X Y : Type 0} (view : X → Y) (value : Result X ParseError) (mid to : List Token) (read : Reading Y) (m : Mark) (result : Result X ParseError)
+    → Gives view value mid read → IfOk result (λ x. (value ≡ Ok x) × (expect m mid ≡ Ok to)) → IfErr result (λ e. StaysOpen value (expect m mid) e)
+    → Gives view result to (read >>= λ x. expect m x.1 >>= λ rest. Ok (x.0, rest))
+closed_gives view value mid to read m (Ok x) h ok err = let read_is : read ≡ Ok (view x, mid) = rw ok.0 at h in rw (read_is, ok.1) refl
+closed_gives view value mid to read m (Err e) h ok err = open_fails view value mid read m (λ x rest. Ok (x.0, rest)) e h err
+
+-- what is known of a value in a list
+pub extended : {X P : Type 0} (xs ys : List X) (value : Result X ParseError) → Extends xs value ys → OnOk value P → P
+extended xs ys (Ok x) h p = p
+extended xs ys (Err e) h p = absurd h
 
 -- ---- lists
 
@@ -112,6 +135,26 @@ commas_fail f item whole xs tokens rest so_far at h =
     let goes : at_comma tokens ≡ Further rest = rw at refl in
     goes_fails f at_comma item whole xs tokens rest so_far goes h
 
+-- the same of lists that values are put behind
+pub commas_begin : {X Y : Type 0} (view : X → Y) (item : Reader Y) (from to : List Token) (value : Result X ParseError) (xs : List X)
+    → Gives view value to (item from) → Extends [] value xs → Goes at_comma item (listed item from) (map view xs) to
+commas_begin view item from to (Ok x) xs h s = rw s (goes_begins_listed item from to (view x) h)
+commas_begin view item from to (Err e) xs h s = absurd s
+
+pub commas_no_first : {X Y : Type 0} (view : X → Y) (item : Reader Y) (from to : List Token) (value : Result X ParseError) (e : ParseError)
+    → Gives view value to (item from) → Stops value e → Fails e (listed item from)
+commas_no_first view item from to value e h s = listed_no_first e item from (stops_fails view value to (item from) e h s)
+
+pub commas_extend : {X Y : Type 0} (view : X → Y) (item : Reader Y) (whole : Reading (List Y)) (xs ys : List X) (value : Result X ParseError) (tokens rest to : List Token)
+    → Goes at_comma item whole (map view xs) tokens → behind mark.Comma tokens ≡ Some rest → Gives view value to (item rest) → OnOk value (length to < length rest) → Extends xs value ys
+    → Goes at_comma item whole (map view ys) to
+commas_extend view item whole xs ys (Ok x) tokens rest to so_far at h less s = rw (s, map_push view xs x) (commas_go_on item whole (map view xs) (view x) tokens rest to so_far at h less)
+commas_extend view item whole xs ys (Err e) tokens rest to so_far at h less s = absurd s
+
+pub commas_stop : {X Y : Type 0} (view : X → Y) (item : Reader Y) (whole : Reading (List Y)) (xs : List X) (value : Result X ParseError) (e : ParseError) (tokens rest to : List Token)
+    → Goes at_comma item whole (map view xs) tokens → behind mark.Comma tokens ≡ Some rest → Gives view value to (item rest) → Stops value e → Fails e whole
+commas_stop view item whole xs value e tokens rest to so_far at h s = commas_fail e item whole (map view xs) tokens rest so_far at (stops_fails view value to (item rest) e h s)
+
 -- a list before a mark
 pub until_ends : {X : Type 0} (m : Mark) (item : Reader X) (whole : Reading (List X)) (xs : List X) (tokens rest : List Token)
     → Goes (until m) item whole xs tokens → behind m tokens ≡ Some rest → whole ≡ Ok (xs, rest)
@@ -127,6 +170,16 @@ pub until_fails : {X : Type 0} (f : ParseError) (m : Mark) (item : Reader X) (wh
 until_fails f m item whole xs tokens so_far at h =
     let goes : until m tokens ≡ Further tokens = rw at refl in goes_fails f (until m) item whole xs tokens tokens so_far goes h
 
+pub until_extend : {X Y : Type 0} (view : X → Y) (m : Mark) (item : Reader Y) (whole : Reading (List Y)) (xs ys : List X) (value : Result X ParseError) (tokens to : List Token)
+    → Goes (until m) item whole (map view xs) tokens → behind m tokens ≡ None → Gives view value to (item tokens) → OnOk value (length to < length tokens) → Extends xs value ys
+    → Goes (until m) item whole (map view ys) to
+until_extend view m item whole xs ys (Ok x) tokens to so_far at h less s = rw (s, map_push view xs x) (until_goes_on m item whole (map view xs) (view x) tokens to so_far at h less)
+until_extend view m item whole xs ys (Err e) tokens to so_far at h less s = absurd s
+
+pub until_stop : {X Y : Type 0} (view : X → Y) (m : Mark) (item : Reader Y) (whole : Reading (List Y)) (xs : List X) (value : Result X ParseError) (e : ParseError) (tokens to : List Token)
+    → Goes (until m) item whole (map view xs) tokens → behind m tokens ≡ None → Gives view value to (item tokens) → Stops value e → Fails e whole
+until_stop view m item whole xs value e tokens to so_far at h s = until_fails e m item whole (map view xs) tokens so_far at (stops_fails view value to (item tokens) e h s)
+
 -- a list up to the last token
 pub all_end : {X : Type 0} (item : Reader X) (whole : Reading (List X)) (xs : List X) (tokens : List Token) → Goes until_end item whole xs tokens → tokens ≡ [] → whole ≡ Ok (xs, tokens)
 all_end item whole xs [] so_far none = goes_ends until_end item whole xs [] [] so_far refl
@@ -141,6 +194,20 @@ pub all_fail : {X : Type 0} (f : ParseError) (item : Reader X) (whole : Reading 
     → Goes until_end item whole xs tokens → 0 < length tokens → Fails f (item tokens) → Fails f whole
 all_fail f item whole xs [] so_far some h = absurd (omega arith)
 all_fail f item whole xs (t ∷ tokens) so_far some h = goes_fails f until_end item whole xs (t ∷ tokens) (t ∷ tokens) so_far refl h
+
+pub all_extend : {X Y : Type 0} (view : X → Y) (item : Reader Y) (whole : Reading (List Y)) (xs ys : List X) (value : Result X ParseError) (tokens to : List Token)
+    → Goes until_end item whole (map view xs) tokens → 0 < length tokens → Gives view value to (item tokens) → OnOk value (length to < length tokens) → Extends xs value ys
+    → Goes until_end item whole (map view ys) to
+all_extend view item whole xs ys (Ok x) tokens to so_far some h less s = rw (s, map_push view xs x) (all_go_on item whole (map view xs) (view x) tokens to so_far some h less)
+all_extend view item whole xs ys (Err e) tokens to so_far some h less s = absurd s
+
+pub all_stop : {X Y : Type 0} (view : X → Y) (item : Reader Y) (whole : Reading (List Y)) (xs : List X) (value : Result X ParseError) (e : ParseError) (tokens to : List Token)
+    → Goes until_end item whole (map view xs) tokens → 0 < length tokens → Gives view value to (item tokens) → Stops value e → Fails e whole
+all_stop view item whole xs value e tokens to so_far some h s = all_fail e item whole (map view xs) tokens so_far some (stops_fails view value to (item tokens) e h s)
+
+pub map_itself : {X : Type 0} (xs : List X) → map itself xs ≡ xs
+map_itself [] = refl
+map_itself (x ∷ xs) = ap (λ ys. x ∷ ys) (map_itself xs)
 
 -- ---- arguments
 

@@ -1,13 +1,13 @@
 -- Statements and what they are made of, one step of reading at a time.
-use Rattle.std.proofs.Common.{◌≡◌, ℕ, zero, suc, ◌-◌, ◌<◌, List, Some, Err, refl, ap, arith}
+use Rattle.std.proofs.Common.{◌≡◌, ℕ, zero, suc, ◌-◌, ◌<◌, List, Some, None, Ok, Err, refl, ap, arith}
 use Rattle.hx_tree.specs.declared.token.Pos.{Pos}
 use Rattle.hx_tree.specs.declared.token.Mark.{Mark}
 use Rattle.hx_tree.specs.declared.token.Mark.TheVariants as mark
 use Rattle.hx_tree.specs.declared.tree.Operator.{Operator}
 use Rattle.hx_tree.specs.Lexis.{Token}
-use Rattle.hx_tree.specs.Tree.{Name, Place}
+use Rattle.hx_tree.specs.Tree.{Name, Place, Set, Increment, Decrement}
 use Rattle.hx_grammar.specs.Reading as reading
-use Rattle.hx_grammar.specs.Reading.{◌>>=◌, listed, local_at, locals_at, place_at, update_turn, update_at, updated_at, updating_of, assigned_at, stmt_with, stmt_at}
+use Rattle.hx_grammar.specs.Reading.{◌>>=◌, expr_at, listed, local_at, locals_at, place_at, update_turn, update_at, updated_at, updating_of, assigned_at, stmt_with, stmt_at}
 
 pub locals_zero : (tokens : List Token) → locals_at 0 tokens ≡ Err reading.TooDeep
 unfolding locals_at
@@ -35,6 +35,26 @@ pub stmt_is : (room : ℕ) (tokens : List Token) → 0 < room → stmt_at room t
 unfolding stmt_at
 stmt_is zero tokens pos = absurd (omega arith)
 stmt_is (suc n) tokens pos = let e : suc n - 1 ≡ n = omega arith in rw e refl
+
+pub update_set : (room : ℕ) (p : Place) (pos : Pos) (tokens : List Token) → update_at room p mark.Assign pos tokens ≡ (expr_at room 11 tokens >>= λ e. Ok (Set p e.0, e.1))
+unfolding update_at
+update_set room p pos tokens = refl
+
+pub update_increment : (room : ℕ) (p : Place) (pos : Pos) (tokens : List Token) → update_at room p mark.Increment pos tokens ≡ Ok (Increment p, tokens)
+unfolding update_at
+update_increment room p pos tokens = refl
+
+pub update_decrement : (room : ℕ) (p : Place) (pos : Pos) (tokens : List Token) → update_at room p mark.Decrement pos tokens ≡ Ok (Decrement p, tokens)
+unfolding update_at
+update_decrement room p pos tokens = refl
+
+pub update_none : (room : ℕ) (p : Place) (m : Mark) (pos : Pos) (tokens : List Token) → updating_of m ≡ None → (m ≡ mark.Assign → ⊥) → (m ≡ mark.Increment → ⊥) → (m ≡ mark.Decrement → ⊥)
+    → update_at room p m pos tokens ≡ Err reading.Syntax
+unfolding update_at
+update_none room p mark.Assign pos tokens h a i d = absurd (a refl)
+update_none room p mark.Increment pos tokens h a i d = absurd (i refl)
+update_none room p mark.Decrement pos tokens h a i d = absurd (d refl)
+update_none room p m pos tokens h a i d = ap (λ u. update_turn room p pos tokens u) h
 
 pub update_other : (room : ℕ) (p : Place) (m : Mark) (pos : Pos) (tokens : List Token) (o : Operator) → updating_of m ≡ Some o → update_at room p m pos tokens ≡ update_turn room p pos tokens (Some o)
 unfolding update_at

@@ -1,5 +1,5 @@
 -- What a function of the parser returns, against a reading of the tokens.
-use Rattle.std.specs.Prelude.{◌≡◌, List, Result, Ok, Err}
+use Rattle.std.specs.Prelude.{◌≡◌, List, [], ◌∷◌, ◌++◌, Result, Ok, Err}
 use Rattle.hx_tree.specs.Tree as tree
 use Rattle.hx_tree.specs.Lexis as lexis
 use Rattle.hx_lex.specs.declared.token.Token.{Token}
@@ -35,3 +35,20 @@ itself x = x
 -- the name in a token
 abbrev pub name_in : Token → tree.Name
 name_in t = record { text = t.text.now; pos = t.pos }
+
+-- ---- what is made of a value that may be refused
+
+-- why there is nothing: the value was refused, or memory ran out
+abbrev pub Stops : {X : Type 0} → Result X ParseError → ParseError → Type 0
+Stops (Ok x) e = e ≡ Memory
+Stops (Err f) e = e ≡ f
+
+-- why there is nothing: the value was refused, or what has to stand behind it
+abbrev pub StaysOpen : {X Y : Type 0} → Result X ParseError → Result Y Refusal → ParseError → Type 0
+StaysOpen (Ok x) read e = Fails e read
+StaysOpen (Err f) read e = e ≡ f
+
+-- a list with the value behind it
+abbrev pub Extends : {X : Type 0} → List X → Result X ParseError → List X → Type 0
+Extends xs (Ok x) all = all ≡ xs ++ x ∷ []
+Extends xs (Err e) all = ⊥

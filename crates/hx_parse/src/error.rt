@@ -1,11 +1,12 @@
 // Why tokens are refused.
 
-ghost use Rattle.std.specs.Prelude.{◌≡◌, Ok, Err, MatchResult};
+ghost use Rattle.std.specs.Prelude.{◌≡◌, Ok, Err, IfOk, IfErr, MatchResult};
 ghost use Rattle.hx_parse.specs.Answer.{number_of, pos_of};
+ghost use Rattle.hx_parse.specs.Gives.{Stops, Extends};
 ghost use Rattle.hx_parse.specs.declared.error.ParseError.TheVariants.{Memory};
 
 use hx_tree::token::Pos;
-use std::alloc::{AllocError, AllocFailed};
+use std::alloc::{AllocError, AllocFailed, Global};
 use thiserror::Error;
 
 /// Why tokens are refused. Each cause has a number.
@@ -74,4 +75,27 @@ pub(crate) fn both<T: Drop, U>(
         Ok(second) => Ok((first, second)),
         Err(error) => Err(error),
     }
+}
+
+/// The value in a box, or the error in place of it.
+pub(crate) fn boxed<T: Drop>(
+    alloc: Global,
+    value: Result<T, ParseError>,
+) -> Result<Box<T>, ParseError>
+    ensures given { IfOk result (λ b. value ≡ Ok b.value) }
+    ensures refused { IfErr result (λ e. Stops value e) }
+{
+    Ok(Box::new(alloc, value?)?)
+}
+
+/// The list with the value behind it, or the error in place of both.
+pub(crate) fn pushed<T: Drop>(
+    mut all: Vec<T>,
+    value: Result<T, ParseError>,
+) -> Result<Vec<T>, ParseError>
+    ensures given { IfOk result (λ v. Extends all.items value v.items) }
+    ensures refused { IfErr result (λ e. Stops value e) }
+{
+    all.push(value?)?;
+    Ok(all)
 }

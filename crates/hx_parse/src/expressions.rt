@@ -7,7 +7,7 @@ ghost use Rattle.hx_tree.specs.Height.{height, heights};
 ghost use Rattle.hx_grammar.specs.Reading.{expr_at, chained_at, arms_at, operand_at, named_at, marked_at, unary_at, arguments_at};
 ghost use Rattle.hx_parse.specs.Gives.{Gives, name_in};
 
-use crate::error::ParseError;
+use crate::error::{ParseError, both};
 use crate::operators::{ALL, OPERANDS, layer_of};
 use crate::parser::Parser;
 use hx_lex::Token;
@@ -98,9 +98,9 @@ impl<'t, 's> Parser<'t, 's> {
         ensures height { IfOk result (λ s. (s.height ≡ height (expr_of s.expr)) × (s.height ≤ room + 1)) }
         ensures shorter { OnOk result (length self.new < length self.old) }
     {
-        let chosen = self.expr(ALL, room)?;
-        self.expect(Mark::Colon)?;
-        let other = self.expr(ALL, room)?;
+        let chosen = self.expr(ALL, room);
+        let (test, chosen) = both(test, self.closed(chosen, Mark::Colon))?;
+        let ((test, chosen), other) = both((test, chosen), self.expr(ALL, room))?;
         Ok(conditional(self.alloc, test, chosen, other)?)
     }
 
@@ -137,15 +137,15 @@ impl<'t, 's> Parser<'t, 's> {
     {
         let name = self.name_in(token)?;
         if self.take(Mark::OpenBracket) {
-            let index = self.expr(ALL, room)?;
-            self.expect(Mark::CloseBracket)?;
+            let index = self.expr(ALL, room);
+            let (name, index) = both(name, self.closed(index, Mark::CloseBracket))?;
             return Ok(Measured {
                 height: index.height + 1,
                 expr: Expr::Element(name, Box::new(self.alloc, index.expr)?),
             });
         }
         if self.take(Mark::OpenParen) {
-            let arguments = self.arguments(room)?;
+            let (name, arguments) = both(name, self.arguments(room))?;
             return Ok(Measured {
                 height: arguments.height + 1,
                 expr: make::call(name, arguments.all),
@@ -168,8 +168,8 @@ impl<'t, 's> Parser<'t, 's> {
     {
         match mark {
             Mark::OpenParen => {
-                let inner = self.expr(ALL, room)?;
-                self.expect(Mark::CloseParen)?;
+                let inner = self.expr(ALL, room);
+                let inner = self.closed(inner, Mark::CloseParen)?;
                 Ok(Measured {
                     height: inner.height + 1,
                     expr: Expr::Paren(Box::new(self.alloc, inner.expr)?),

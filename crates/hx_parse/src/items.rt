@@ -5,7 +5,7 @@ ghost use Rattle.hx_tree.specs.View.{name_of, shape_of, global_of, params_of, it
 ghost use Rattle.hx_grammar.specs.Reading.{listed, listed_from, constant_at, values_at, shape_at, global_at, globals_at, param_at, params_at, function_at, int_item_at, void_item_at, item_at, all_of, until_end};
 ghost use Rattle.hx_parse.specs.Gives.{Gives, itself};
 
-use crate::error::ParseError;
+use crate::error::{ParseError, both, pushed};
 use crate::parser::Parser;
 use hx_tree::token::Mark;
 use hx_tree::tree::{Constant, Func, GlobalDecl, Item, Name, Params, Returns, Shape};
@@ -38,12 +38,9 @@ impl<'t, 's> Parser<'t, 's> {
         ensures read { Gives (λ v. v.items) result self.new (listed constant_at self.old) }
         ensures shorter { OnOk result (length self.new < length self.old) }
     {
-        let mut all = Vec::new(self.alloc);
-        let first = self.constant()?;
-        all.push(first)?;
+        let mut all = pushed(Vec::new(self.alloc), self.constant())?;
         while self.take(Mark::Comma) {
-            let next = self.constant()?;
-            all.push(next)?;
+            all = pushed(all, self.constant())?;
         }
         Ok(all)
     }
@@ -56,9 +53,8 @@ impl<'t, 's> Parser<'t, 's> {
     {
         if self.take(Mark::Assign) {
             self.expect(Mark::OpenBrace)?;
-            let all = self.constants()?;
-            self.expect(Mark::CloseBrace)?;
-            return Ok(all);
+            let all = self.constants();
+            return self.closed(all, Mark::CloseBrace);
         }
         Ok(Vec::new(self.alloc))
     }
@@ -70,8 +66,8 @@ impl<'t, 's> Parser<'t, 's> {
         ensures shorter { OnOk result (length self.new ≤ length self.old) }
     {
         if self.take(Mark::OpenBracket) {
-            let words = self.number()?;
-            self.expect(Mark::CloseBracket)?;
+            let words = self.number();
+            let words = self.closed(words, Mark::CloseBracket)?;
             let values = self.values()?;
             return Ok(Shape::Array(words, values));
         }
@@ -101,8 +97,7 @@ impl<'t, 's> Parser<'t, 's> {
         let mut all = Vec::new(self.alloc);
         all.push(first)?;
         while self.take(Mark::Comma) {
-            let next = self.global()?;
-            all.push(next)?;
+            all = pushed(all, self.global())?;
         }
         Ok(all)
     }
@@ -113,9 +108,9 @@ impl<'t, 's> Parser<'t, 's> {
         ensures read { Gives item_of result self.new (globals_at (name_of name) self.old) }
         ensures shorter { OnOk result (length self.new < length self.old) }
     {
-        let shape = self.shape()?;
-        let all = self.further_globals(GlobalDecl { name, shape })?;
-        self.expect(Mark::Semicolon)?;
+        let (name, shape) = both(name, self.shape())?;
+        let all = self.further_globals(GlobalDecl { name, shape });
+        let all = self.closed(all, Mark::Semicolon)?;
         Ok(Item::Globals(all))
     }
 
@@ -136,12 +131,9 @@ impl<'t, 's> Parser<'t, 's> {
         ensures read { Gives (λ v. map name_of v.items) result self.new (listed param_at self.old) }
         ensures shorter { OnOk result (length self.new < length self.old) }
     {
-        let mut all = Vec::new(self.alloc);
-        let first = self.parameter()?;
-        all.push(first)?;
+        let mut all = pushed(Vec::new(self.alloc), self.parameter())?;
         while self.take(Mark::Comma) {
-            let next = self.parameter()?;
-            all.push(next)?;
+            all = pushed(all, self.parameter())?;
         }
         Ok(all)
     }
@@ -159,8 +151,8 @@ impl<'t, 's> Parser<'t, 's> {
             self.expect(Mark::CloseParen)?;
             return Ok(Params::Void);
         }
-        let names = self.parameters()?;
-        self.expect(Mark::CloseParen)?;
+        let names = self.parameters();
+        let names = self.closed(names, Mark::CloseParen)?;
         Ok(Params::Names(names))
     }
 
@@ -170,9 +162,9 @@ impl<'t, 's> Parser<'t, 's> {
         ensures read { Gives item_of result self.new (function_at room returns (name_of name) self.old) }
         ensures shorter { OnOk result (length self.new < length self.old) }
     {
-        let params = self.params()?;
-        self.expect(Mark::OpenBrace)?;
-        let body = self.parts(room)?;
+        let params = self.params();
+        let (name, params) = both(name, self.closed(params, Mark::OpenBrace))?;
+        let ((name, params), body) = both((name, params), self.parts(room))?;
         Ok(Item::Function(Func {
             returns,
             name,
@@ -228,8 +220,7 @@ impl<'t, 's> Parser<'t, 's> {
     {
         let mut all = Vec::new(self.alloc);
         while !self.is_done() {
-            let next = self.item(room)?;
-            all.push(next)?;
+            all = pushed(all, self.item(room))?;
         }
         Ok(all)
     }

@@ -1,13 +1,13 @@
 // The tokens, read one after another.
 
-ghost use Rattle.std.specs.Prelude.{◌≡◌, ◌<◌, ◌≤◌, List, [], ◌∷◌, map, length, drop, MatchOption, MatchBool, OnOk, IfOk, Some, None};
+ghost use Rattle.std.specs.Prelude.{◌≡◌, ◌<◌, ◌≤◌, List, [], ◌∷◌, map, length, drop, MatchOption, MatchBool, OnOk, IfOk, IfErr, Ok, Some, None};
 ghost use Rattle.hx_tree.specs.Lexis as lexis;
 ghost use Rattle.hx_tree.specs.View.{name_of};
 ghost use Rattle.hx_lex.specs.View.{token_of, tokens_of};
 ghost use Rattle.hx_grammar.specs.Reading.{front, behind, expect, name_at, number_at, operator_at};
-ghost use Rattle.hx_parse.specs.Gives.{Gives, GivesRest, itself, name_in};
+ghost use Rattle.hx_parse.specs.Gives.{Gives, GivesRest, StaysOpen, itself, name_in};
 
-use crate::error::ParseError;
+use crate::error::{ParseError, both};
 use crate::operators::{binary_of, layer_of};
 use hx_lex::Token;
 use hx_tree::token::{Kind, Mark, Pos};
@@ -134,6 +134,21 @@ impl<'t, 's> Parser<'t, 's> {
         } else {
             Err(ParseError::Syntax(self.place()))
         }
+    }
+
+    /// What was read, where the mark has to be next: the value, or the error in place of it, or that of the mark.
+    pub(crate) fn closed<T: Drop>(
+        &mut self,
+        value: Result<T, ParseError>,
+        mark: Mark,
+    ) -> Result<T, ParseError>
+        ensures given { IfOk result (λ x. (value ≡ Ok x) × (expect mark self.old ≡ Ok self.new)) }
+        ensures refused { IfErr result (λ e. StaysOpen value (expect mark self.old) e) }
+        ensures shorter { OnOk result (length self.new < length self.old) }
+    {
+        let value = value?;
+        let (value, _) = both(value, self.expect(mark))?;
+        Ok(value)
     }
 
     /// The name in a token.

@@ -3,10 +3,10 @@
 ghost use Rattle.std.specs.Prelude.{◌≡◌, ◌<◌, ◌≤◌, map, length, option_map, OnOk, Some, None};
 ghost use Rattle.hx_tree.specs.declared.token.Mark.TheVariants as mark;
 ghost use Rattle.hx_tree.specs.View.{name_of, expr_of, local_of, place_of, assignment_of, init_of, for_clauses_of, stmt_of, part_of};
-ghost use Rattle.hx_grammar.specs.Reading.{expr_at, in_parens_at, optional_at, local_at, locals_at, place_at, update_at, updated_at, assigned_at, assignment_at, init_turn, init_at, for_clauses_at, part_at, parts_at, named_stmt_turn, named_stmt_at, print_at, emit_at, break_at, continue_at, return_at, if_at, else_at, while_at, do_at, for_at, marked_stmt_at, stmt_with, stmt_at};
+ghost use Rattle.hx_grammar.specs.Reading.{expr_at, in_parens_at, optional_at, local_at, locals_at, place_at, update_at, updated_at, assigned_at, assignment_at, init_turn, init_at, for_clauses_at, part_at, parts_at, named_stmt_turn, named_stmt_at, print_at, emit_at, return_at, if_at, else_at, while_at, do_at, for_at, marked_stmt_at, stmt_with, stmt_at};
 ghost use Rattle.hx_parse.specs.Gives.{Gives, name_in};
 
-use crate::error::{ParseError, both};
+use crate::error::{ParseError, both, boxed, pushed};
 use crate::operators::updating_of;
 use crate::parser::Parser;
 use hx_lex::Token;
@@ -25,12 +25,9 @@ impl<'t, 's> Parser<'t, 's> {
         if room == 0 {
             return Err(ParseError::TooDeep);
         }
-        let mut all = Vec::new(self.alloc);
-        let first = self.local(room - 1)?;
-        all.push(first)?;
+        let mut all = pushed(Vec::new(self.alloc), self.local(room - 1))?;
         while self.take(Mark::Comma) {
-            let next = self.local(room - 1)?;
-            all.push(next)?;
+            all = pushed(all, self.local(room - 1))?;
         }
         Ok(all)
     }
@@ -43,7 +40,7 @@ impl<'t, 's> Parser<'t, 's> {
     {
         let name = self.name()?;
         if self.take(Mark::Assign) {
-            let value = self.expression(room)?;
+            let (name, value) = both(name, self.expression(room))?;
             return Ok(LocalDecl {
                 name,
                 init: Some(value),
@@ -84,8 +81,8 @@ impl<'t, 's> Parser<'t, 's> {
         ensures shorter { OnOk result (length self.new ≤ length self.old) }
     {
         if self.take(Mark::OpenBracket) {
-            let place = both(name, self.expression(room))?;
-            let ((name, index), _) = both(place, self.expect(Mark::CloseBracket))?;
+            let index = self.expression(room);
+            let (name, index) = both(name, self.closed(index, Mark::CloseBracket))?;
             return Ok(Place::Element(name, index));
         }
         Ok(Place::Variable(name))
@@ -107,7 +104,6 @@ impl<'t, 's> Parser<'t, 's> {
     }
 
     /// What is done to a place, where the mark at `pos` that says so is taken.
-    #[tactic(auto, unfolding(hx_grammar::specs::Reading::update_at), using(crate::proofs::Steps::update_other))]
     fn update(
         &mut self,
         target: Place,
@@ -144,9 +140,8 @@ impl<'t, 's> Parser<'t, 's> {
         ensures shorter { OnOk result (length self.new < length self.old) }
     {
         self.expect(Mark::OpenParen)?;
-        let inner = self.expression(room)?;
-        let (inner, _) = both(inner, self.expect(Mark::CloseParen))?;
-        Ok(inner)
+        let inner = self.expression(room);
+        self.closed(inner, Mark::CloseParen)
     }
 
     /// An expression, if one is there, and the `;` behind it.
@@ -158,8 +153,8 @@ impl<'t, 's> Parser<'t, 's> {
         if self.take(Mark::Semicolon) {
             return Ok(None);
         }
-        let value = self.expression(room)?;
-        let (value, _) = both(value, self.expect(Mark::Semicolon))?;
+        let value = self.expression(room);
+        let value = self.closed(value, Mark::Semicolon)?;
         Ok(Some(value))
     }
 
@@ -182,8 +177,8 @@ impl<'t, 's> Parser<'t, 's> {
         ensures read { Gives stmt_of result self.new (named_stmt_turn room (name_of name) self.old (Some self.old)) }
         ensures shorter { OnOk result (length self.new < length self.old) }
     {
-        let call = both(name, self.call_arguments(room))?;
-        let ((name, arguments), _) = both(call, self.expect(Mark::Semicolon))?;
+        let arguments = self.call_arguments(room);
+        let (name, arguments) = both(name, self.closed(arguments, Mark::Semicolon))?;
         Ok(Stmt::CallStatement(name, arguments))
     }
 
@@ -192,8 +187,8 @@ impl<'t, 's> Parser<'t, 's> {
         ensures read { Gives stmt_of result self.new (named_stmt_turn room (name_of name) self.old None) }
         ensures shorter { OnOk result (length self.new < length self.old) }
     {
-        let assignment = self.assigned(name, room)?;
-        let (assignment, _) = both(assignment, self.expect(Mark::Semicolon))?;
+        let assignment = self.assigned(name, room);
+        let assignment = self.closed(assignment, Mark::Semicolon)?;
         Ok(Stmt::Assign(assignment))
     }
 
@@ -203,8 +198,8 @@ impl<'t, 's> Parser<'t, 's> {
         ensures read { Gives stmt_of result self.new (print_at room pos self.old) }
         ensures shorter { OnOk result (length self.new ≤ length self.old) }
     {
-        let value = self.in_parens(room)?;
-        let (value, _) = both(value, self.expect(Mark::Semicolon))?;
+        let value = self.in_parens(room);
+        let value = self.closed(value, Mark::Semicolon)?;
         Ok(Stmt::Print(pos, value))
     }
 
@@ -214,29 +209,9 @@ impl<'t, 's> Parser<'t, 's> {
         ensures read { Gives stmt_of result self.new (emit_at room pos self.old) }
         ensures shorter { OnOk result (length self.new ≤ length self.old) }
     {
-        let value = self.in_parens(room)?;
-        let (value, _) = both(value, self.expect(Mark::Semicolon))?;
+        let value = self.in_parens(room);
+        let value = self.closed(value, Mark::Semicolon)?;
         Ok(Stmt::Emit(pos, value))
-    }
-
-    /// What stands behind a `break` at `pos`.
-    #[tactic(auto, unfolding(hx_grammar::specs::Reading::break_at))]
-    fn break_statement(&mut self, pos: Pos) -> Result<Stmt, ParseError>
-        ensures read { Gives stmt_of result self.new (break_at pos self.old) }
-        ensures shorter { OnOk result (length self.new ≤ length self.old) }
-    {
-        self.expect(Mark::Semicolon)?;
-        Ok(Stmt::Break(pos))
-    }
-
-    /// What stands behind a `continue` at `pos`.
-    #[tactic(auto, unfolding(hx_grammar::specs::Reading::continue_at))]
-    fn continue_statement(&mut self, pos: Pos) -> Result<Stmt, ParseError>
-        ensures read { Gives stmt_of result self.new (continue_at pos self.old) }
-        ensures shorter { OnOk result (length self.new ≤ length self.old) }
-    {
-        self.expect(Mark::Semicolon)?;
-        Ok(Stmt::Continue(pos))
     }
 
     /// What stands behind a `return` at `pos`.
@@ -284,8 +259,8 @@ impl<'t, 's> Parser<'t, 's> {
         ensures read { Gives init_of result self.new (init_turn room self.old None (Some self.old)) }
         ensures shorter { OnOk result (length self.new < length self.old) }
     {
-        let locals = self.locals(room)?;
-        self.expect(Mark::Semicolon)?;
+        let locals = self.locals(room);
+        let locals = self.closed(locals, Mark::Semicolon)?;
         Ok(Init::Locals(locals))
     }
 
@@ -294,8 +269,8 @@ impl<'t, 's> Parser<'t, 's> {
         ensures read { Gives init_of result self.new (init_turn room self.old None None) }
         ensures shorter { OnOk result (length self.new < length self.old) }
     {
-        let assignment = self.assignment(room)?;
-        let (assignment, _) = both(assignment, self.expect(Mark::Semicolon))?;
+        let assignment = self.assignment(room);
+        let assignment = self.closed(assignment, Mark::Semicolon)?;
         Ok(Init::Assign(assignment))
     }
 
@@ -308,8 +283,8 @@ impl<'t, 's> Parser<'t, 's> {
         if self.take(Mark::CloseParen) {
             return Ok(None);
         }
-        let assignment = self.assignment(room)?;
-        let (assignment, _) = both(assignment, self.expect(Mark::CloseParen))?;
+        let assignment = self.assignment(room);
+        let assignment = self.closed(assignment, Mark::CloseParen)?;
         Ok(Some(assignment))
     }
 
@@ -366,8 +341,8 @@ impl<'t, 's> Parser<'t, 's> {
             Mark::Do => self.do_loop(room),
             Mark::For => self.for_loop(false, room),
             Mark::MarkedFor => self.for_loop(true, room),
-            Mark::Break => self.break_statement(pos),
-            Mark::Continue => self.continue_statement(pos),
+            Mark::Break => self.closed(Ok(Stmt::Break(pos)), Mark::Semicolon),
+            Mark::Continue => self.closed(Ok(Stmt::Continue(pos)), Mark::Semicolon),
             Mark::Return => self.return_statement(pos, room),
             _ => Err(ParseError::Syntax(pos)),
         }
@@ -381,8 +356,7 @@ impl<'t, 's> Parser<'t, 's> {
     {
         let mut all = Vec::new(self.alloc);
         while !self.take(Mark::CloseBrace) {
-            let next = self.part(room)?;
-            all.push(next)?;
+            all = pushed(all, self.part(room))?;
         }
         Ok(all)
     }
@@ -395,8 +369,8 @@ impl<'t, 's> Parser<'t, 's> {
         ensures shorter { OnOk result (length self.new < length self.old) }
     {
         if self.take(Mark::Int) {
-            let locals = self.locals(room)?;
-            self.expect(Mark::Semicolon)?;
+            let locals = self.locals(room);
+            let locals = self.closed(locals, Mark::Semicolon)?;
             return Ok(Part::Locals(locals));
         }
         let statement = self.statement(room)?;
@@ -453,10 +427,10 @@ impl<'t, 's> Parser<'t, 's> {
         ensures read { Gives stmt_of result self.new (do_at room (stmt_at room) self.old) }
         ensures shorter { OnOk result (length self.new ≤ length self.old) }
     {
-        let body = self.body(room)?;
-        let (body, _) = both(body, self.expect(Mark::While))?;
-        let body_and_test = both(body, self.in_parens(room))?;
-        let ((body, test), _) = both(body_and_test, self.expect(Mark::Semicolon))?;
+        let body = self.body(room);
+        let body = self.closed(body, Mark::While)?;
+        let test = self.in_parens(room);
+        let (body, test) = both(body, self.closed(test, Mark::Semicolon))?;
         Ok(Stmt::DoWhile(body, test))
     }
 
@@ -478,7 +452,6 @@ impl<'t, 's> Parser<'t, 's> {
         ensures read { Gives (λ b. stmt_of b.value) result self.new (stmt_at room self.old) }
         ensures shorter { OnOk result (length self.new < length self.old) }
     {
-        let statement = self.statement(room)?;
-        Ok(Box::new(self.alloc, statement)?)
+        boxed(self.alloc, self.statement(room))
     }
 }

@@ -1,15 +1,21 @@
 use Rattle.std.proofs.lemmas.Grind.{common_steps}
-use Rattle.std.proofs.Common.{◌≡◌, ◌<◌, [], ◌∷◌, ◌++◌, map, length, refl, ap, arith}
+use Rattle.std.proofs.Common.{◌≡◌, ◌<◌, [], ◌∷◌, ◌++◌, map, length, Ok, refl, ap, ◌∙◌, arith}
 use Rattle.std.proofs.lemmas.Result.{err_from_is_err_and, on_ok_weaker}
 use Rattle.std.proofs.lemmas.List.{map_push}
 use Rattle.hx_tree.specs.declared.token.Mark.TheVariants as mark
+use Rattle.hx_tree.specs.Tree.{Expr, Element, Call, Paren, Conditional, exprs}
 use Rattle.hx_tree.specs.View.{expr_of}
 use Rattle.hx_tree.specs.Height.{height}
-use Rattle.hx_grammar.specs.Reading.{listed, expr_at}
+use Rattle.hx_grammar.specs.Reading.{◌>>=◌, listed, arguments_at, named_at, marked_at, arms_at, expr_at}
+use Rattle.hx_parse.specs.declared.expressions.Measured.{Measured}
+use Rattle.hx_parse.specs.Gives.{name_in}
 use Rattle.hx_parse.proofs.Marks.{behind_shorter, operator_shorter}
-use Rattle.hx_parse.proofs.Loops.{listed_no_first, commas_end, commas_go_on, commas_fail, no_arguments, arguments_are, arguments_fail, arguments_stay_open, chain_begins, chain_no_operand, chain_ends, chain_too_deep, chain_goes_on, chain_no_right, heights-push, no_room, no_test, no_choice, no_question, test_too_high, choice_is}
+use Rattle.hx_parse.proofs.Loops.{fails_then, open_fails, listed_no_first, commas_end, commas_go_on, commas_fail, no_arguments, arguments_are, arguments_fail, arguments_stay_open, chain_begins, chain_no_operand, chain_ends, chain_too_deep, chain_goes_on, chain_no_right, heights-push, no_room, no_test, no_choice, no_question, test_too_high, choice_is}
 use Rattle.hx_parse.proofs.parser.Parser.+expr.Goals.{expr-then-layer-lt-ALL-via-then-layer-lt-ALL, expr-then-layer-lt-ALL-via-else-layer-lt-ALL+then-not-take}
 use Rattle.hx_parse.proofs.parser.Parser.+expr.Goals as goal
+
+abbrev made_of : Measured → Expr
+made_of s = expr_of s.expr
 
 pub expr-returns-then-room-eq0-clause-read : goal.expr-returns-then-room-eq0-clause-read
 expr-returns-then-room-eq0-clause-read t c = rw (c.if-room-eq0.true) (no_room c.args.layer c.args.self.now)
@@ -133,44 +139,8 @@ arguments-returns-then-take-clause-height t c = grind (arith, common_steps)
 pub arguments-expr-requires : goal.arguments-expr-requires
 arguments-expr-requires t c = grind (arith, common_steps)
 
-pub arguments-returns-in_err-first-clause-height : goal.arguments-returns-in_err-first-clause-height
-arguments-returns-in_err-first-clause-height t c = grind (arith, common_steps)
-
-pub arguments-returns-in_err-first-clause-shorter : goal.arguments-returns-in_err-first-clause-shorter
-arguments-returns-in_err-first-clause-shorter t c = grind (arith, common_steps)
-
-pub arguments-returns-in_err-push-clause-read : goal.arguments-returns-in_err-push-clause-read
-arguments-returns-in_err-push-clause-read t c = grind (arith, common_steps)
-
-pub arguments-returns-in_err-push-clause-height : goal.arguments-returns-in_err-push-clause-height
-arguments-returns-in_err-push-clause-height t c = grind (arith, common_steps)
-
-pub arguments-returns-in_err-push-clause-shorter : goal.arguments-returns-in_err-push-clause-shorter
-arguments-returns-in_err-push-clause-shorter t c = grind (arith, common_steps)
-
 pub arguments-expr-requires-in-loop-self : goal.arguments-expr-requires-in-loop-self
 arguments-expr-requires-in-loop-self t c = grind (arith, common_steps)
-
-pub arguments-returns-in_err-next-clause-height : goal.arguments-returns-in_err-next-clause-height
-arguments-returns-in_err-next-clause-height t c = grind (arith, common_steps)
-
-pub arguments-returns-in_err-next-clause-shorter : goal.arguments-returns-in_err-next-clause-shorter
-arguments-returns-in_err-next-clause-shorter t c = grind (arith, common_steps)
-
-pub arguments-returns-in_err-push-2-clause-read : goal.arguments-returns-in_err-push-2-clause-read
-arguments-returns-in_err-push-2-clause-read t c = grind (arith, common_steps)
-
-pub arguments-returns-in_err-push-2-clause-height : goal.arguments-returns-in_err-push-2-clause-height
-arguments-returns-in_err-push-2-clause-height t c = grind (arith, common_steps)
-
-pub arguments-returns-in_err-push-2-clause-shorter : goal.arguments-returns-in_err-push-2-clause-shorter
-arguments-returns-in_err-push-2-clause-shorter t c = grind (arith, common_steps)
-
-pub arguments-returns-in_err-expect-clause-height : goal.arguments-returns-in_err-expect-clause-height
-arguments-returns-in_err-expect-clause-height t c = grind (arith, common_steps)
-
-pub arguments-returns-in_err-expect-clause-shorter : goal.arguments-returns-in_err-expect-clause-shorter
-arguments-returns-in_err-expect-clause-shorter t c = grind (arith, common_steps)
 
 pub arguments-returns-clause-height : goal.arguments-returns-clause-height
 arguments-returns-clause-height t c = grind (arith, common_steps)
@@ -187,12 +157,6 @@ chained-overflow_sub-room t c = grind (arith, common_steps)
 pub chained-operand-requires : goal.chained-operand-requires
 chained-operand-requires t c = grind (arith, common_steps)
 
-pub chained-returns-in_err-left-clause-height : goal.chained-returns-in_err-left-clause-height
-chained-returns-in_err-left-clause-height t c = grind (arith, common_steps)
-
-pub chained-returns-in_err-left-clause-shorter : goal.chained-returns-in_err-left-clause-shorter
-chained-returns-in_err-left-clause-shorter t c = grind (arith, common_steps)
-
 pub chained-returns-then-left-room-clause-height : goal.chained-returns-then-left-room-clause-height
 chained-returns-then-left-room-clause-height t c = grind (arith, common_steps)
 
@@ -208,12 +172,6 @@ chained-overflow_sub-room-in-Some t c = grind (arith, common_steps)
 pub chained-expr-requires : goal.chained-expr-requires
 chained-expr-requires t c = grind (arith, common_steps)
 
-pub chained-returns-in_err-right-clause-height : goal.chained-returns-in_err-right-clause-height
-chained-returns-in_err-right-clause-height t c = grind (arith, common_steps)
-
-pub chained-returns-in_err-right-clause-shorter : goal.chained-returns-in_err-right-clause-shorter
-chained-returns-in_err-right-clause-shorter t c = grind (arith, common_steps)
-
 pub chained-binary-requires-clause-left : goal.chained-binary-requires-clause-left
 chained-binary-requires-clause-left t c = grind (arith, common_steps)
 
@@ -222,15 +180,6 @@ chained-binary-requires-clause-right t c = grind (arith, common_steps)
 
 pub chained-same-self : goal.chained-same-self
 chained-same-self t c = grind (arith, common_steps)
-
-pub chained-returns-in_err-left-2-clause-read : goal.chained-returns-in_err-left-2-clause-read
-chained-returns-in_err-left-2-clause-read t c = grind (arith, common_steps)
-
-pub chained-returns-in_err-left-2-clause-height : goal.chained-returns-in_err-left-2-clause-height
-chained-returns-in_err-left-2-clause-height t c = grind (arith, common_steps)
-
-pub chained-returns-in_err-left-2-clause-shorter : goal.chained-returns-in_err-left-2-clause-shorter
-chained-returns-in_err-left-2-clause-shorter t c = grind (arith, common_steps)
 
 pub chained-same-self-in-Some : goal.chained-same-self-in-Some
 chained-same-self-in-Some t c = grind (arith, common_steps)
@@ -244,35 +193,11 @@ chained-returns-clause-height t c = grind (arith, common_steps)
 pub chained-returns-clause-shorter : goal.chained-returns-clause-shorter
 chained-returns-clause-shorter t c = grind (arith, common_steps)
 
-pub marked-expr-requires : goal.marked-expr-requires
-marked-expr-requires t c = grind (arith, common_steps)
-
-pub marked-returns-in_err-inner-in-OpenParen-clause-height : goal.marked-returns-in_err-inner-in-OpenParen-clause-height
-marked-returns-in_err-inner-in-OpenParen-clause-height t c = grind (arith, common_steps)
-
-pub marked-returns-in_err-inner-in-OpenParen-clause-shorter : goal.marked-returns-in_err-inner-in-OpenParen-clause-shorter
-marked-returns-in_err-inner-in-OpenParen-clause-shorter t c = grind (arith, common_steps)
-
-pub marked-returns-in_err-expect-in-OpenParen-clause-height : goal.marked-returns-in_err-expect-in-OpenParen-clause-height
-marked-returns-in_err-expect-in-OpenParen-clause-height t c = grind (arith, common_steps)
-
-pub marked-returns-in_err-expect-in-OpenParen-clause-shorter : goal.marked-returns-in_err-expect-in-OpenParen-clause-shorter
-marked-returns-in_err-expect-in-OpenParen-clause-shorter t c = grind (arith, common_steps)
-
 pub marked-overflow_add-result : goal.marked-overflow_add-result
 marked-overflow_add-result t c = grind (arith, common_steps)
 
 pub marked-same-self : goal.marked-same-self
 marked-same-self t c = grind (arith, common_steps)
-
-pub marked-returns-in_err-new-in-OpenParen-clause-read : goal.marked-returns-in_err-new-in-OpenParen-clause-read
-marked-returns-in_err-new-in-OpenParen-clause-read t c = grind (arith, common_steps)
-
-pub marked-returns-in_err-new-in-OpenParen-clause-height : goal.marked-returns-in_err-new-in-OpenParen-clause-height
-marked-returns-in_err-new-in-OpenParen-clause-height t c = grind (arith, common_steps)
-
-pub marked-returns-in_err-new-in-OpenParen-clause-shorter : goal.marked-returns-in_err-new-in-OpenParen-clause-shorter
-marked-returns-in_err-new-in-OpenParen-clause-shorter t c = grind (arith, common_steps)
 
 pub marked-same-self-in-OpenParen : goal.marked-same-self-in-OpenParen
 marked-same-self-in-OpenParen t c = grind (arith, common_steps)
@@ -310,44 +235,11 @@ marked-returns-in-Exclamation-clause-height t c = grind (arith, common_steps)
 pub marked-returns-in-Exclamation-clause-shorter : goal.marked-returns-in-Exclamation-clause-shorter
 marked-returns-in-Exclamation-clause-shorter t c = grind (arith, common_steps)
 
-pub named-returns-in_err-name-clause-read : goal.named-returns-in_err-name-clause-read
-named-returns-in_err-name-clause-read t c = grind (arith, common_steps)
-
-pub named-returns-in_err-name-clause-height : goal.named-returns-in_err-name-clause-height
-named-returns-in_err-name-clause-height t c = grind (arith, common_steps)
-
-pub named-returns-in_err-name-clause-shorter : goal.named-returns-in_err-name-clause-shorter
-named-returns-in_err-name-clause-shorter t c = grind (arith, common_steps)
-
-pub named-expr-requires : goal.named-expr-requires
-named-expr-requires t c = grind (arith, common_steps)
-
-pub named-returns-in_err-index-clause-height : goal.named-returns-in_err-index-clause-height
-named-returns-in_err-index-clause-height t c = grind (arith, common_steps)
-
-pub named-returns-in_err-index-clause-shorter : goal.named-returns-in_err-index-clause-shorter
-named-returns-in_err-index-clause-shorter t c = grind (arith, common_steps)
-
-pub named-returns-in_err-expect-clause-height : goal.named-returns-in_err-expect-clause-height
-named-returns-in_err-expect-clause-height t c = grind (arith, common_steps)
-
-pub named-returns-in_err-expect-clause-shorter : goal.named-returns-in_err-expect-clause-shorter
-named-returns-in_err-expect-clause-shorter t c = grind (arith, common_steps)
-
 pub named-overflow_add-result : goal.named-overflow_add-result
 named-overflow_add-result t c = grind (arith, common_steps)
 
 pub named-same-self : goal.named-same-self
 named-same-self t c = grind (arith, common_steps)
-
-pub named-returns-in_err-new-clause-read : goal.named-returns-in_err-new-clause-read
-named-returns-in_err-new-clause-read t c = grind (arith, common_steps)
-
-pub named-returns-in_err-new-clause-height : goal.named-returns-in_err-new-clause-height
-named-returns-in_err-new-clause-height t c = grind (arith, common_steps)
-
-pub named-returns-in_err-new-clause-shorter : goal.named-returns-in_err-new-clause-shorter
-named-returns-in_err-new-clause-shorter t c = grind (arith, common_steps)
 
 pub named-same-self-then-take : goal.named-same-self-then-take
 named-same-self-then-take t c = grind (arith, common_steps)
@@ -357,12 +249,6 @@ named-returns-then-take-clause-height t c = grind (arith, common_steps)
 
 pub named-arguments-requires : goal.named-arguments-requires
 named-arguments-requires t c = grind (arith, common_steps)
-
-pub named-returns-in_err-arguments-clause-height : goal.named-returns-in_err-arguments-clause-height
-named-returns-in_err-arguments-clause-height t c = grind (arith, common_steps)
-
-pub named-returns-in_err-arguments-clause-shorter : goal.named-returns-in_err-arguments-clause-shorter
-named-returns-in_err-arguments-clause-shorter t c = grind (arith, common_steps)
 
 pub named-overflow_add-result-then-take-2 : goal.named-overflow_add-result-then-take-2
 named-overflow_add-result-then-take-2 t c = grind (arith, common_steps)
@@ -409,26 +295,11 @@ operand-returns-in-Mark-clause-shorter t c = grind (arith, common_steps)
 pub unary-expr-requires : goal.unary-expr-requires
 unary-expr-requires t c = grind (arith, common_steps)
 
-pub unary-returns-in_err-inner-clause-height : goal.unary-returns-in_err-inner-clause-height
-unary-returns-in_err-inner-clause-height t c = grind (arith, common_steps)
-
-pub unary-returns-in_err-inner-clause-shorter : goal.unary-returns-in_err-inner-clause-shorter
-unary-returns-in_err-inner-clause-shorter t c = grind (arith, common_steps)
-
 pub unary-overflow_add-result : goal.unary-overflow_add-result
 unary-overflow_add-result t c = grind (arith, common_steps)
 
 pub unary-same-self : goal.unary-same-self
 unary-same-self t c = grind (arith, common_steps)
-
-pub unary-returns-in_err-new-clause-read : goal.unary-returns-in_err-new-clause-read
-unary-returns-in_err-new-clause-read t c = grind (arith, common_steps)
-
-pub unary-returns-in_err-new-clause-height : goal.unary-returns-in_err-new-clause-height
-unary-returns-in_err-new-clause-height t c = grind (arith, common_steps)
-
-pub unary-returns-in_err-new-clause-shorter : goal.unary-returns-in_err-new-clause-shorter
-unary-returns-in_err-new-clause-shorter t c = grind (arith, common_steps)
 
 pub unary-same-self-2 : goal.unary-same-self-2
 unary-same-self-2 t c = grind (arith, common_steps)
@@ -438,3 +309,107 @@ unary-returns-clause-height t c = grind (arith, common_steps)
 
 pub unary-returns-clause-shorter : goal.unary-returns-clause-shorter
 unary-returns-clause-shorter t c = grind (arith, common_steps)
+
+pub arms-expr-chosen-requires : goal.arms-expr-chosen-requires
+arms-expr-chosen-requires t c = grind (arith, common_steps)
+
+pub arms-returns-in_err-test-clause-read : goal.arms-returns-in_err-test-clause-read
+unfolding arms_at
+arms-returns-in_err-test-clause-read t c =
+    let p = err_from_is_err_and c.from_residual.result c.from_residual.ensures.1 in
+    let h = rw (c.in_err-test.ensures) at c.closed.ensures.refused in
+    rw (p.1, p.2) (open_fails made_of c.expr-chosen.result c.expr-chosen.new.self (expr_at c.args.room 11 c.args.self.now) mark.Colon (λ a rest. expr_at c.args.room 11 rest >>= λ b. Ok (Conditional (expr_of c.args.test.expr) a.0 b.0, b.1)) c.in_err-test.field-0.0 c.expr-chosen.ensures.read h)
+
+pub arms-returns-in_err-test-2-clause-read : goal.arms-returns-in_err-test-2-clause-read
+unfolding arms_at
+arms-returns-in_err-test-2-clause-read t c =
+    let p = err_from_is_err_and c.from_residual-in_err-test-2.result c.from_residual-in_err-test-2.ensures.1 in
+    let given = rw (c.in_ok-test.ensures.1) at c.closed.ensures.given in
+    let chosen = rw (given.0) at c.expr-chosen.ensures.read in
+    let h = rw (c.in_err-test-2.ensures) at c.expr.ensures.read in
+    rw (p.1, p.2, chosen, given.1) (fails_then c.in_err-test-2.field-0.0 (expr_at c.args.room 11 c.closed.new.self) (λ b. Ok (Conditional (expr_of c.args.test.expr) (expr_of c.in_ok-test.chosen.expr) b.0, b.1)) h)
+
+pub arms-returns-clause-read : goal.arms-returns-clause-read
+unfolding arms_at
+arms-returns-clause-read t c =
+    let given = rw (c.in_ok-test.ensures.1) at c.closed.ensures.given in
+    let chosen = rw (given.0) at c.expr-chosen.ensures.read in
+    let other = rw (c.in_ok-test-2.ensures.1) at c.expr.ensures.read in
+    let held = c.in_ok-test-2.ensures.0 in
+    rw (c.in_ok-conditional.ensures.tree, ap (λ two. two.0) held, ap (λ two. two.1) held, c.in_ok-test.ensures.0, chosen, given.1, other) refl
+
+pub arms-returns-clause-height : goal.arms-returns-clause-height
+arms-returns-clause-height t c =
+    let given = rw (c.in_ok-test.ensures.1) at c.closed.ensures.given in
+    let chosen = rw (given.0) at c.expr-chosen.ensures.height in
+    let other = rw (c.in_ok-test-2.ensures.1) at c.expr.ensures.height in
+    let test_is = ap (λ two. two.0) c.in_ok-test-2.ensures.0 ∙ c.in_ok-test.ensures.0 in
+    let chosen_is = ap (λ two. two.1) c.in_ok-test-2.ensures.0 in
+    let all = rw (test_is, chosen_is) at c.in_ok-conditional.ensures.height in
+    rw (c.in_ok-conditional.ensures.tree, test_is, chosen_is) (omega (arith, all, c.requires.test.0, chosen.0, other.0), omega (arith, all, c.requires.test.1, chosen.1, other.1))
+
+pub arms-returns-clause-shorter : goal.arms-returns-clause-shorter
+arms-returns-clause-shorter t c =
+    let given = rw (c.in_ok-test.ensures.1) at c.closed.ensures.given in
+    let chosen = rw (given.0) at c.expr-chosen.ensures.shorter in
+    let colon = rw (c.in_ok-test.ensures.1) at c.closed.ensures.shorter in
+    let other = rw (c.in_ok-test-2.ensures.1) at c.expr.ensures.shorter in
+    omega (arith, chosen, colon, other)
+
+pub marked-returns-in_err-inner-in-OpenParen-clause-read : goal.marked-returns-in_err-inner-in-OpenParen-clause-read
+unfolding marked_at
+marked-returns-in_err-inner-in-OpenParen-clause-read t c =
+    let p = err_from_is_err_and c.from_residual.result c.from_residual.ensures.1 in
+    rw (p.1, p.2, c.in-OpenParen.is) (open_fails made_of c.expr-inner.result c.expr-inner.new.self (expr_at c.args.room 11 c.args.self.now) mark.CloseParen (λ e to. Ok (Paren e.0, to)) c.in_err-inner-in-OpenParen.field-0.0 c.expr-inner.ensures.read c.in_err-inner-in-OpenParen.ensures.refused)
+
+pub marked-returns-in_ok-new-in-OpenParen-clause-read : goal.marked-returns-in_ok-new-in-OpenParen-clause-read
+unfolding marked_at
+marked-returns-in_ok-new-in-OpenParen-clause-read t c =
+    let given = c.in_ok-inner-in-OpenParen.ensures.given in
+    let inner = rw (given.0) at c.expr-inner.ensures.read in
+    rw (c.in-OpenParen.is, inner, given.1, c.in_ok-new-in-OpenParen.ensures.ok) refl
+
+pub named-returns-in_err-name-2-clause-read : goal.named-returns-in_err-name-2-clause-read
+unfolding named_at
+named-returns-in_err-name-2-clause-read t c =
+    let p = err_from_is_err_and c.from_residual-in_err-name-2.result c.from_residual-in_err-name-2.ensures.1 in
+    let h = rw (c.in_err-name-2.ensures) at c.closed.ensures.refused in
+    rw (p.1, p.2, c.if-take.ensures) (open_fails made_of c.expr-index.result c.expr-index.new.self (expr_at c.args.room 11 c.take.new.self) mark.CloseBracket (λ e to. Ok (Element (name_in c.args.token) e.0, to)) c.in_err-name-2.field-0.0 c.expr-index.ensures.read h)
+
+pub named-returns-then-take-clause-read : goal.named-returns-then-take-clause-read
+unfolding named_at
+named-returns-then-take-clause-read t c =
+    let given = rw (c.in_ok-name-2.ensures.1) at c.closed.ensures.given in
+    let index = rw (given.0) at c.expr-index.ensures.read in
+    rw (c.if-take.ensures, index, given.1, c.in_ok-name-2.ensures.0, c.in_ok-name.ensures, c.in_ok-new.ensures.ok) refl
+
+pub named-returns-in_err-name-3-clause-read : goal.named-returns-in_err-name-3-clause-read
+unfolding named_at
+named-returns-in_err-name-3-clause-read t c =
+    let p = err_from_is_err_and c.from_residual-in_err-name-3.result c.from_residual-in_err-name-3.ensures.1 in
+    let behind_it = rw (c.if-take.ensures.1) at c.if-take-2.ensures in
+    let h = rw (c.in_err-name-3.ensures) at c.arguments.ensures.read in
+    rw (p.1, p.2, c.if-take.ensures.0, behind_it) (fails_then c.in_err-name-3.field-0.0 (arguments_at (expr_at c.args.room) c.take-2.new.self) (λ es. Ok (Call (name_in c.args.token) (exprs es.0), es.1)) h)
+
+pub named-returns-then-take-2-clause-read : goal.named-returns-then-take-2-clause-read
+unfolding named_at
+named-returns-then-take-2-clause-read t c =
+    let behind_it = rw (c.if-take.ensures.1) at c.if-take-2.ensures in
+    let arguments = rw (c.in_ok-name-3.ensures.1) at c.arguments.ensures.read in
+    rw (c.if-take.ensures.0, behind_it, arguments, c.call.ensures, c.in_ok-name-3.ensures.0, c.in_ok-name.ensures) refl
+
+pub named-returns-clause-read : goal.named-returns-clause-read
+unfolding named_at
+named-returns-clause-read t c =
+    let no_arguments = rw (c.if-take.ensures.1) at c.if-take-2.ensures.0 in
+    rw (c.if-take.ensures.0, no_arguments, c.in_ok-name.ensures, c.if-take-2.ensures.1, c.if-take.ensures.1) refl
+
+pub expr-returns-then-layer-lt-ALL-clause-height : goal.expr-returns-then-layer-lt-ALL-clause-height
+expr-returns-then-layer-lt-ALL-clause-height t c = c.in_ok-test.ensures.height
+
+pub expr-returns-then-layer-lt-ALL-clause-shorter : goal.expr-returns-then-layer-lt-ALL-clause-shorter
+expr-returns-then-layer-lt-ALL-clause-shorter t c =
+    elim c.then-layer-lt-ALL.branch [
+      | expr-then-layer-lt-ALL-via-then-layer-lt-ALL w ↦ omega (arith, ap length w.self-is, c.in_ok-test.ensures.shorter)
+      | expr-then-layer-lt-ALL-via-else-layer-lt-ALL+then-not-take w ↦ omega (arith, ap length w.self-is, ap length w.if-not-take.ensures.1, c.in_ok-test.ensures.shorter)
+    ]

@@ -38,11 +38,11 @@ decreases-for_loop l = 6 * l.room + 2
 abbrev pub decreases-body : goal.decreases-body
 decreases-body l = 6 * l.room + 1
 
-abbrev pub invariant-parts-loop-self : goal.invariant-parts-loop-self
-invariant-parts-loop-self l = record {
+abbrev pub invariant-parts-loop-all : goal.invariant-parts-loop-all
+invariant-parts-loop-all l = record {
   goes : Goes (until mark.CloseBrace) (part_at l.room (stmt_at l.room)) (all_of (until mark.CloseBrace) (part_at l.room (stmt_at l.room)) l.fn.self) (map part_of l.all.items) l.self;
   is_shorter : length l.self ≤ length l.fn.self;
 }
 
-abbrev pub decreases-parts-loop-self : goal.decreases-parts-loop-self
-decreases-parts-loop-self l = length l.self
+abbrev pub decreases-parts-loop-all : goal.decreases-parts-loop-all
+decreases-parts-loop-all l = length l.self

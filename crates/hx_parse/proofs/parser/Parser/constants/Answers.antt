@@ -1,26 +1,28 @@
-use Rattle.std.proofs.Common.{◌≡◌, [], ◌∷◌, ◌++◌, arith}
+use Rattle.std.proofs.Common.{map, arith}
 use Rattle.std.proofs.lemmas.Result.{err_from_is_err_and}
 use Rattle.hx_tree.specs.declared.token.Mark.TheVariants as mark
 use Rattle.hx_grammar.specs.Reading.{listed, constant_at}
+use Rattle.hx_parse.specs.Gives.{itself}
 use Rattle.hx_parse.proofs.Marks.{behind_shorter}
-use Rattle.hx_parse.proofs.Loops.{commas_end, commas_go_on, commas_fail}
+use Rattle.hx_parse.proofs.Loops.{extended, commas_end, commas_extend, commas_stop, map_itself}
 use Rattle.hx_parse.proofs.parser.Parser.constants.Goals as goal
 
-pub returns-in_err-next-clause-read : goal.returns-in_err-next-clause-read
-returns-in_err-next-clause-read c =
-    let p = err_from_is_err_and c.from_residual-in_err-next.result c.from_residual-in_err-next.ensures.1 in
-    rw (p.1, p.2) (commas_fail c.in_err-next.field-0.0 constant_at (listed constant_at c.args.self.now) c.loop-self.all.items c.loop-self.self c.take.new.self c.loop-self.invariant.goes c.loop-self-test.ensures c.in_err-next.ensures.read)
+pub returns-in_err-all-2-clause-read : goal.returns-in_err-all-2-clause-read
+returns-in_err-all-2-clause-read c =
+    let p = err_from_is_err_and c.from_residual-in_err-all-2.result c.from_residual-in_err-all-2.ensures.1 in
+    rw (p.1, p.2) (commas_stop itself constant_at (listed constant_at c.args.self.now) c.loop-all.all.items c.constant-in-loop-all.result c.in_err-all-2.field-0.0 c.loop-all.self c.take.new.self c.constant-in-loop-all.new.self c.loop-all.invariant.goes c.loop-all-test.ensures c.constant-in-loop-all.ensures.read c.in_err-all-2.ensures.refused)
 
-pub loop-self-smaller : goal.loop-self-smaller
-loop-self-smaller c = omega (arith, behind_shorter mark.Comma c.loop-self.self c.take.new.self c.loop-self-test.ensures, c.in_ok-next.ensures.shorter)
+pub loop-all-smaller : goal.loop-all-smaller
+loop-all-smaller c = omega (arith, behind_shorter mark.Comma c.loop-all.self c.take.new.self c.loop-all-test.ensures, extended _ _ c.constant-in-loop-all.result c.in_ok-all-2.ensures.given c.constant-in-loop-all.ensures.shorter)
 
-pub loop-self-preserved : goal.loop-self-preserved
-loop-self-preserved c =
-    let e : c.push-in-loop-self.new.self.items ≡ c.loop-self.all.items ++ c.in_ok-next.next ∷ [] = c.in_ok-push-2.ensures.items in
-    record {
-      goes = rw e (commas_go_on constant_at (listed constant_at c.args.self.now) c.loop-self.all.items c.in_ok-next.next c.loop-self.self c.take.new.self c.constant-in-loop-self.new.self c.loop-self.invariant.goes c.loop-self-test.ensures c.in_ok-next.ensures.read c.in_ok-next.ensures.shorter);
-      is_shorter = omega (arith, behind_shorter mark.Comma c.loop-self.self c.take.new.self c.loop-self-test.ensures, c.in_ok-next.ensures.shorter);
-    }
+pub loop-all-preserved : goal.loop-all-preserved
+loop-all-preserved c = record {
+  goes = commas_extend itself constant_at (listed constant_at c.args.self.now) c.loop-all.all.items c.in_ok-all-2.all.items c.constant-in-loop-all.result c.loop-all.self c.take.new.self c.constant-in-loop-all.new.self c.loop-all.invariant.goes c.loop-all-test.ensures c.constant-in-loop-all.ensures.read c.constant-in-loop-all.ensures.shorter c.in_ok-all-2.ensures.given;
+  is_shorter = omega (arith, behind_shorter mark.Comma c.loop-all.self c.take.new.self c.loop-all-test.ensures, extended _ _ c.constant-in-loop-all.result c.in_ok-all-2.ensures.given c.constant-in-loop-all.ensures.shorter);
+}
 
 pub returns-clause-read : goal.returns-clause-read
-returns-clause-read c = let h = c.loop-self-test.ensures in rw (h.1) (commas_end constant_at (listed constant_at c.args.self.now) c.loop-self.all.items c.loop-self.self c.loop-self.invariant.goes h.0)
+returns-clause-read c =
+    let h = c.loop-all-test.ensures in
+    let all = commas_end constant_at (listed constant_at c.args.self.now) (map itself c.loop-all.all.items) c.loop-all.self c.loop-all.invariant.goes h.0 in
+    rw (h.1) (rw (map_itself c.loop-all.all.items) at all)

@@ -1,20 +1,18 @@
-use Rattle.std.proofs.Common.{◌≡◌, [], ◌∷◌, ◌++◌, map}
+use Rattle.std.proofs.Common.{map}
 use Rattle.std.proofs.lemmas.Result.{err_from_is_err_and}
-use Rattle.std.proofs.lemmas.List.{map_push}
 use Rattle.hx_tree.specs.View.{item_of}
 use Rattle.hx_grammar.specs.Reading.{all_of, until_end, item_at}
-use Rattle.hx_parse.proofs.Loops.{all_end, all_go_on, all_fail}
+use Rattle.hx_parse.proofs.Loops.{all_end, all_extend, all_stop}
 use Rattle.hx_parse.proofs.parser.Parser.items.Goals as goal
 
-pub returns-in_err-next : goal.returns-in_err-next
-returns-in_err-next c =
+pub returns-in_err-all : goal.returns-in_err-all
+returns-in_err-all c =
     let p = err_from_is_err_and c.from_residual.result c.from_residual.ensures.1 in
-    rw (p.1, p.2) (all_fail c.in_err-next.field-0.0 (item_at c.args.room) (all_of until_end (item_at c.args.room) c.args.self.now) (map item_of c.loop-self.all.items) c.loop-self.self c.loop-self.invariant c.loop-self-test.ensures c.in_err-next.ensures.read)
+    rw (p.1, p.2) (all_stop item_of (item_at c.args.room) (all_of until_end (item_at c.args.room) c.args.self.now) c.loop-all.all.items c.item.result c.in_err-all.field-0.0 c.loop-all.self c.item.new.self c.loop-all.invariant c.loop-all-test.ensures c.item.ensures.read c.in_err-all.ensures.refused)
 
-pub loop-self-preserved : goal.loop-self-preserved
-loop-self-preserved c =
-    let e : map item_of c.push.new.self.items ≡ map item_of c.loop-self.all.items ++ item_of c.in_ok-next.next ∷ [] = rw c.in_ok-push.ensures.items (map_push _ c.loop-self.all.items c.in_ok-next.next) in
-    rw e (all_go_on (item_at c.args.room) (all_of until_end (item_at c.args.room) c.args.self.now) (map item_of c.loop-self.all.items) (item_of c.in_ok-next.next) c.loop-self.self c.item.new.self c.loop-self.invariant c.loop-self-test.ensures c.in_ok-next.ensures.read c.in_ok-next.ensures.shorter)
+pub loop-all-preserved : goal.loop-all-preserved
+loop-all-preserved c =
+    all_extend item_of (item_at c.args.room) (all_of until_end (item_at c.args.room) c.args.self.now) c.loop-all.all.items c.in_ok-all.all.items c.item.result c.loop-all.self c.item.new.self c.loop-all.invariant c.loop-all-test.ensures c.item.ensures.read c.item.ensures.shorter c.in_ok-all.ensures.given
 
 pub returns : goal.returns
-returns c = all_end (item_at c.args.room) (all_of until_end (item_at c.args.room) c.args.self.now) (map item_of c.loop-self.all.items) c.loop-self.self c.loop-self.invariant c.loop-self-test.ensures
+returns c = all_end (item_at c.args.room) (all_of until_end (item_at c.args.room) c.args.self.now) (map item_of c.loop-all.all.items) c.loop-all.self c.loop-all.invariant c.loop-all-test.ensures
