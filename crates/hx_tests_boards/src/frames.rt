@@ -1,37 +1,43 @@
 // A frame by its own calls: one iteration of a marked loop, as a worker runs it by itself.
 
-ghost use Rattle.std.specs.Prelude.{IfOk};
+ghost use Rattle.std.specs.Prelude.{◌≡◌};
 ghost use Rattle.hx_code.specs.Fits.{FitsLocal};
 
+use crate::sources::code_for;
 use hx_exec::executable::Executable;
 use hx_exec::local::Local;
 use hx_frame::action::{Action, Stop};
 use hx_frame::frame::{Capacities, Frame, Tag};
-use hx_run::executable_of;
 use std::alloc::Global;
 use std::process::Abort;
-use std::test::Fail;
 
 // Counts to two.
 const COUNTS: &[u8] = b"int c; int main(){ pwhile(c<2){ c=c+1; } }";
 
-fn code_of(alloc: Global, source: &[u8]) -> Result<Executable, Fail> {
-    match executable_of(alloc, source) {
-        Ok(code) => Ok(code),
-        Err(_) => Err(Fail::from("refused")),
+// Where each iteration of the only region begins.
+fn start_of(rt: &impl Abort, alloc: Global, code: &Executable) -> Local
+    ensures { FitsLocal code.now result }
+{
+    if code.regions().len() != 1 {
+        panic!(rt; "one region is wanted");
+    }
+    match Local::new(alloc, code) {
+        Ok(mut start) => {
+            start.begin(code, 0, 0, &[0; 64], 0);
+            start
+        }
+        Err(_) => panic!(rt; "no memory"),
     }
 }
 
-// Where each iteration of the only region begins.
-fn start_of(alloc: Global, code: &Executable) -> Result<Local, Fail>
-    ensures { IfOk result (λ l. FitsLocal code.now l) }
+// A frame with room for one word that is read, and for one that is written.
+fn frame_for<'c>(rt: &impl Abort, alloc: Global, code: &'c Executable) -> Frame<'c>
+    ensures { result.code ≡ code.now }
 {
-    if code.regions().len() != 1 {
-        return Err(Fail::from("one region is wanted"));
+    match Frame::new(alloc, code, ROOM) {
+        Ok(frame) => frame,
+        Err(_) => panic!(rt; "no memory"),
     }
-    let mut start = Local::new(alloc, code)?;
-    start.begin(code, 0, 0, &[0; 64], 0);
-    Ok(start)
 }
 
 fn stops(rt: &impl Abort, frame: &mut Frame<'_>, limit: u64, wanted: Stop) {
@@ -78,22 +84,21 @@ const TAG: Tag = Tag {
 };
 
 // A turn of the only region, which counts.
-fn counts_once(rt: &impl Abort, alloc: Global, code: &Executable) -> Result<(), Fail> {
-    let start = start_of(alloc, code)?;
-    let mut frame = Frame::new(alloc, code, ROOM)?;
+fn counts_once(rt: &impl Abort, alloc: Global, code: &Executable) {
+    let start = start_of(rt, alloc, code);
+    let mut frame = frame_for(rt, alloc, code);
     frame.restart(&start);
     frame.tag(1, 5, 2);
     adds_one(rt, &mut frame);
     has(rt, &frame, 0, Some(0), Some(1));
     shows(rt, &frame, Action::TurnEnd, 1, 1);
     is_tagged(rt, &frame, TAG, ROOM);
-    Ok(())
 }
 
 #[test]
-fn a_turn_asks_for_one_load_and_one_store(rt: HostRuntime) -> Result<(), Fail> {
-    let code = code_of(rt.alloc(), COUNTS)?;
-    counts_once(&rt, rt.alloc(), &code)
+fn a_turn_asks_for_one_load_and_one_store(rt: HostRuntime) {
+    let code = code_for(&rt, rt.alloc(), COUNTS);
+    counts_once(&rt, rt.alloc(), &code);
 }
 
 // A turn that waits at each thing that it asks for, and goes on behind it.
@@ -115,69 +120,59 @@ fn waits(rt: &impl Abort, frame: &mut Frame<'_>) {
 }
 
 // A turn of the only region, which waits.
-fn waits_once(rt: &impl Abort, alloc: Global, code: &Executable) -> Result<(), Fail> {
-    let start = start_of(alloc, code)?;
-    let mut frame = Frame::new(alloc, code, ROOM)?;
+fn waits_once(rt: &impl Abort, alloc: Global, code: &Executable) {
+    let start = start_of(rt, alloc, code);
+    let mut frame = frame_for(rt, alloc, code);
     frame.restart(&start);
     waits(rt, &mut frame);
     shows(rt, &frame, Action::None, 1, 1);
-    Ok(())
 }
 
 #[test]
-fn what_waits_goes_on_behind(rt: HostRuntime) -> Result<(), Fail> {
-    let code = code_of(
-        rt.alloc(),
-        b"int c; int main(){ pwhile(c<1){ print(c); emit(65); c=5; } }",
-    )?;
-    waits_once(&rt, rt.alloc(), &code)
+fn what_waits_goes_on_behind(rt: HostRuntime) {
+    let source = b"int c; int main(){ pwhile(c<1){ print(c); emit(65); c=5; } }";
+    let code = code_for(&rt, rt.alloc(), source);
+    waits_once(&rt, rt.alloc(), &code);
 }
 
 // Whether a source has the same code as another.
-fn is_code_of(
-    rt: &impl Abort,
-    alloc: Global,
-    source: &[u8],
-    code: &Executable,
-    wanted: bool,
-) -> Result<(), Fail> {
-    let other = code_of(alloc, source)?;
+fn is_code_of(rt: &impl Abort, alloc: Global, source: &[u8], code: &Executable, wanted: bool) {
+    let other = code_for(rt, alloc, source);
     assert_eq!(rt; code.is_same(&other), wanted);
-    Ok(())
 }
 
 #[test]
-fn codes_are_compared_by_their_parts(rt: HostRuntime) -> Result<(), Fail> {
-    let code = code_of(rt.alloc(), COUNTS)?;
-    is_code_of(&rt, rt.alloc(), COUNTS, &code, true)?;
+fn codes_are_compared_by_their_parts(rt: HostRuntime) {
+    let code = code_for(&rt, rt.alloc(), COUNTS);
+    is_code_of(&rt, rt.alloc(), COUNTS, &code, true);
     let other = b"int c; int main(){ pwhile(c<3){ c=c+1; } }";
-    is_code_of(&rt, rt.alloc(), other, &code, false)
+    is_code_of(&rt, rt.alloc(), other, &code, false);
 }
 
 // An iteration of the same code, made anew, begins in this state.
-fn begins_so(rt: &impl Abort, alloc: Global, start: &Local) -> Result<(), Fail> {
-    let again = code_of(alloc, COUNTS)?;
-    let same = start_of(alloc, &again)?;
+fn begins_so(rt: &impl Abort, alloc: Global, start: &Local) {
+    let again = code_for(rt, alloc, COUNTS);
+    let same = start_of(rt, alloc, &again);
     assert_eq!(rt; start.is_same(&same), true);
-    Ok(())
 }
 
 // A run begins in another.
-fn is_no_run(rt: &impl Abort, alloc: Global, code: &Executable, start: &Local) -> Result<(), Fail> {
-    let main = Local::new(alloc, code)?;
-    assert_eq!(rt; start.is_same(&main), false);
-    Ok(())
+fn is_no_run(rt: &impl Abort, alloc: Global, code: &Executable, start: &Local) {
+    match Local::new(alloc, code) {
+        Ok(main) => assert_eq!(rt; start.is_same(&main), false),
+        Err(_) => panic!(rt; "no memory"),
+    }
 }
 
 // The state in which an iteration of a code begins, beside two others.
-fn compares(rt: &impl Abort, alloc: Global, code: &Executable) -> Result<(), Fail> {
-    let start = start_of(alloc, code)?;
-    begins_so(rt, alloc, &start)?;
-    is_no_run(rt, alloc, code, &start)
+fn compares(rt: &impl Abort, alloc: Global, code: &Executable) {
+    let start = start_of(rt, alloc, code);
+    begins_so(rt, alloc, &start);
+    is_no_run(rt, alloc, code, &start);
 }
 
 #[test]
-fn states_are_compared_by_their_parts(rt: HostRuntime) -> Result<(), Fail> {
-    let code = code_of(rt.alloc(), COUNTS)?;
-    compares(&rt, rt.alloc(), &code)
+fn states_are_compared_by_their_parts(rt: HostRuntime) {
+    let code = code_for(&rt, rt.alloc(), COUNTS);
+    compares(&rt, rt.alloc(), &code);
 }

@@ -12,6 +12,8 @@ mod schedules;
 #[cfg(test)]
 mod slots;
 #[cfg(test)]
+mod sources;
+#[cfg(test)]
 mod tables;
 #[cfg(test)]
 mod texts;

@@ -1,9 +1,7 @@
 // Stores that change nothing of what a later iteration has read restart nobody, and are counted as spared.
 
-use crate::boards::played;
+use crate::boards::{Played, plays};
 use hx_board::State;
-use std::process::Abort;
-use std::test::Fail;
 
 const EQUAL: &[u8] = b"int d; int main(){ pfor(int i=0;i<2;i++){ if(i==0) d=0; else print(d); } }";
 
@@ -12,33 +10,38 @@ const COVERED: &[u8] =
 
 // Iteration 1 has read d before iteration 0 stores the value that d has.
 #[test]
-fn an_equal_store_restarts_nobody(rt: HostRuntime) -> Result<(), Fail> {
-    let schedule = [0, 1, 1, 0, 1, 0, 0, 1, 1, 1, 0, 0, 0];
-    let (trace, counts) = played(rt.alloc(), EQUAL, 2, schedule.as_slice())?;
-    assert!(&rt; trace.state == State::Left);
-    assert_eq!(&rt; trace.text.as_slice(), b"0\n".as_slice());
-    assert_eq!(&rt; trace.store.as_slice().first(), Some(&0));
-    assert_eq!(&rt; counts, [2, 0, 0, 0, 0, 0, 0, 1]);
-    Ok(())
+fn an_equal_store_restarts_nobody(rt: HostRuntime) {
+    let steps = [0, 1, 1, 0, 1, 0, 0, 1, 1, 1, 0, 0, 0];
+    let wanted = Played {
+        state: State::Left,
+        text: b"0\n",
+        store: &[0],
+        counts: [2, 0, 0, 0, 0, 0, 0, 1],
+    };
+    plays(&rt, rt.alloc(), EQUAL, 2, &steps, wanted);
 }
 
 // Iteration 2 has read what iteration 1 wrote to d before iteration 0 stores another value.
 #[test]
-fn a_covered_store_restarts_nobody(rt: HostRuntime) -> Result<(), Fail> {
-    let schedule = [0, 1, 2, 1, 2, 0, 0, 0, 1, 1, 2, 2, 2, 0, 0, 0];
-    let (trace, counts) = played(rt.alloc(), COVERED, 3, schedule.as_slice())?;
-    assert!(&rt; trace.state == State::Left);
-    assert_eq!(&rt; trace.text.as_slice(), b"5\n".as_slice());
-    assert_eq!(&rt; trace.store.as_slice().first(), Some(&5));
-    assert_eq!(&rt; counts, [3, 0, 0, 0, 0, 0, 0, 1]);
-    Ok(())
+fn a_covered_store_restarts_nobody(rt: HostRuntime) {
+    let steps = [0, 1, 2, 1, 2, 0, 0, 0, 1, 1, 2, 2, 2, 0, 0, 0];
+    let wanted = Played {
+        state: State::Left,
+        text: b"5\n",
+        store: &[5],
+        counts: [3, 0, 0, 0, 0, 0, 0, 1],
+    };
+    plays(&rt, rt.alloc(), COVERED, 3, &steps, wanted);
 }
 
 // .. and begins again where it read d before iteration 1 stored there.
 #[test]
-fn an_uncovered_store_restarts_a_reader(rt: HostRuntime) -> Result<(), Fail> {
-    let (trace, counts) = played(rt.alloc(), COVERED, 3, &[0, 1, 2, 2, 1])?;
-    assert!(&rt; trace.state == State::Running);
-    assert_eq!(&rt; counts, [0, 0, 1, 1, 0, 0, 0, 0]);
-    Ok(())
+fn an_uncovered_store_restarts_a_reader(rt: HostRuntime) {
+    let wanted = Played {
+        state: State::Running,
+        text: b"",
+        store: &[0],
+        counts: [0, 0, 1, 1, 0, 0, 0, 0],
+    };
+    plays(&rt, rt.alloc(), COVERED, 3, &[0, 1, 2, 2, 1], wanted);
 }

@@ -5,7 +5,20 @@ use hx_marks::find_tag;
 use hx_marks::marks::{Entry, Full, Marks};
 use std::alloc::{AllocError, Global};
 use std::process::Abort;
-use std::test::Fail;
+
+fn buffer_for(rt: &impl Abort, alloc: Global, room: usize) -> WriteBuffer {
+    match WriteBuffer::with_capacity(alloc, room) {
+        Ok(buffer) => buffer,
+        Err(_) => panic!(rt; "no memory"),
+    }
+}
+
+fn marks_for(rt: &impl Abort, alloc: Global, room: usize) -> Marks {
+    match Marks::with_capacity(alloc, room) {
+        Ok(marks) => marks,
+        Err(_) => panic!(rt; "no memory"),
+    }
+}
 
 fn puts(
     rt: &impl Abort,
@@ -29,52 +42,56 @@ fn marks_are(rt: &impl Abort, marks: &Marks, wanted: &[Entry]) {
     }
 }
 
+// Laid over a store, it comes to this, and the buffer is empty.
+fn drains(rt: &impl Abort, buffer: &mut WriteBuffer, store: &mut [i32], wanted: &[i32]) {
+    buffer.drain_into(store);
+    assert!(rt; *store == *wanted);
+    assert_eq!(rt; buffer.len(), 0);
+}
+
+// What is marked of a word.
+fn marked(rt: &impl Abort, marks: &Marks, word: u32, wanted: Option<i32>) {
+    assert_eq!(rt; marks.get(word), wanted);
+}
+
 fn writes_one(rt: &impl Abort, buffer: &WriteBuffer, wanted: Entry) {
     assert_eq!(rt; buffer.len(), 1);
     assert_eq!(rt; buffer.at(0), wanted);
 }
 
+// What is written of three words.
+fn written(buffer: &WriteBuffer) -> [Option<i32>; 3] {
+    [buffer.get(0), buffer.get(2), buffer.get(3)]
+}
+
 #[test]
-fn two_words_are_laid_over_a_store(rt: HostRuntime) -> Result<(), Fail> {
-    let mut buffer = WriteBuffer::with_capacity(rt.alloc(), 2)?;
+fn two_words_are_laid_over_a_store(rt: HostRuntime) {
+    let mut buffer = buffer_for(&rt, rt.alloc(), 2);
     puts(&rt, &mut buffer, 3, 6, Ok(()));
     puts(&rt, &mut buffer, 0, -1, Ok(()));
     puts(&rt, &mut buffer, 2, 8, Err(Full));
     puts(&rt, &mut buffer, 3, 5, Ok(()));
-    assert_eq!(rt;
-        [buffer.get(0), buffer.get(2), buffer.get(3)],
-        [Some(-1), None, Some(5)]
-    );
+    assert_eq!(rt; written(&buffer), [Some(-1), None, Some(5)]);
     let mut store = [10, 11, 12, 13];
-    buffer.drain_into(&mut store);
-    assert_eq!(rt; store, [-1, 11, 12, 5]);
-    assert_eq!(rt; buffer.len(), 0);
+    drains(&rt, &mut buffer, &mut store, &[-1, 11, 12, 5]);
     puts(&rt, &mut buffer, 2, 8, Ok(()));
-    Ok(())
 }
 
 #[test]
-fn what_is_cleared_is_not_written(rt: HostRuntime) -> Result<(), Fail> {
-    let mut buffer = WriteBuffer::with_capacity(rt.alloc(), 1)?;
+fn what_is_cleared_is_not_written(rt: HostRuntime) {
+    let mut buffer = buffer_for(&rt, rt.alloc(), 1);
     puts(&rt, &mut buffer, 1, 7, Ok(()));
     writes_one(&rt, &buffer, Entry { word: 1, value: 7 });
     buffer.clear();
-    let mut store = [10, 11];
-    buffer.drain_into(&mut store);
-    assert_eq!(rt; store, [10, 11]);
-    Ok(())
+    drains(&rt, &mut buffer, &mut [10, 11], &[10, 11]);
 }
 
 #[test]
-fn words_beyond_the_store_are_dropped(rt: HostRuntime) -> Result<(), Fail> {
-    let mut buffer = WriteBuffer::with_capacity(rt.alloc(), 2)?;
+fn words_beyond_the_store_are_dropped(rt: HostRuntime) {
+    let mut buffer = buffer_for(&rt, rt.alloc(), 2);
     puts(&rt, &mut buffer, 2, 7, Ok(()));
     puts(&rt, &mut buffer, 1, 8, Ok(()));
-    let mut store = [10, 11];
-    buffer.drain_into(&mut store);
-    assert_eq!(rt; store, [10, 8]);
-    assert_eq!(rt; buffer.len(), 0);
-    Ok(())
+    drains(&rt, &mut buffer, &mut [10, 11], &[10, 8]);
 }
 
 const FOUR: Entry = Entry { word: 4, value: -2 };
@@ -82,37 +99,33 @@ const FOUR: Entry = Entry { word: 4, value: -2 };
 const SEVEN: Entry = Entry { word: 7, value: 3 };
 
 #[test]
-fn two_words_fill_marks_of_two(rt: HostRuntime) -> Result<(), Fail> {
-    let mut marks = Marks::with_capacity(rt.alloc(), 2)?;
-    assert_eq!(rt; marks.get(7), None);
+fn two_words_fill_marks_of_two(rt: HostRuntime) {
+    let mut marks = marks_for(&rt, rt.alloc(), 2);
+    marked(&rt, &marks, 7, None);
     marks_so(&rt, &mut marks, 7, 1, Ok(()));
     marks_so(&rt, &mut marks, 4, -2, Ok(()));
     marks_so(&rt, &mut marks, 5, 0, Err(Full));
     marks_so(&rt, &mut marks, 7, 3, Ok(()));
-    assert_eq!(rt;
-        [marks.get(4), marks.get(5), marks.get(7)],
-        [Some(-2), None, Some(3)]
-    );
+    marked(&rt, &marks, 4, Some(-2));
+    marked(&rt, &marks, 5, None);
+    marked(&rt, &marks, 7, Some(3));
     marks_are(&rt, &marks, &[FOUR, SEVEN]);
-    Ok(())
 }
 
 #[test]
-fn emptied_marks_have_their_room_again(rt: HostRuntime) -> Result<(), Fail> {
-    let mut marks = Marks::with_capacity(rt.alloc(), 1)?;
+fn emptied_marks_have_their_room_again(rt: HostRuntime) {
+    let mut marks = marks_for(&rt, rt.alloc(), 1);
     marks_so(&rt, &mut marks, 7, 3, Ok(()));
     marks.clear();
-    assert_eq!(rt; marks.get(7), None);
+    marked(&rt, &marks, 7, None);
     marks_so(&rt, &mut marks, 4, -2, Ok(()));
     marks_are(&rt, &marks, &[FOUR]);
-    Ok(())
 }
 
 #[test]
-fn marks_without_room_are_full(rt: HostRuntime) -> Result<(), Fail> {
-    let mut marks = Marks::with_capacity(rt.alloc(), 0)?;
+fn marks_without_room_are_full(rt: HostRuntime) {
+    let mut marks = marks_for(&rt, rt.alloc(), 0);
     marks_so(&rt, &mut marks, 0, 0, Err(Full));
-    Ok(())
 }
 
 // So many words, no two of which are the same, and none of which is 1; they fall.
@@ -124,57 +137,66 @@ fn words_without_1(alloc: Global, count: u32) -> Result<Vec<u32>, AllocError> {
     Ok(words)
 }
 
+fn words_for(rt: &impl Abort, alloc: Global, count: u32) -> Vec<u32> {
+    match words_without_1(alloc, count) {
+        Ok(words) => words,
+        Err(_) => panic!(rt; "no memory"),
+    }
+}
+
+// The first place of a word among others.
+fn is_at(rt: &impl Abort, words: &[u32], word: u32, place: Option<usize>) {
+    assert_eq!(rt; find_tag(words, word), place);
+}
+
 fn finds(rt: &impl Abort, words: &[u32], place: usize) {
     assert!(rt; place < words.len());
-    assert_eq!(rt; find_tag(words, words[place]), Some(place));
+    is_at(rt, words, words[place], Some(place));
 }
 
 #[test]
-fn each_of_up_to_64_words_is_found(rt: HostRuntime) -> Result<(), Fail> {
+fn each_of_up_to_64_words_is_found(rt: HostRuntime) {
     for count in 0..65 {
-        let words = words_without_1(rt.alloc(), count)?;
+        let words = words_for(&rt, rt.alloc(), count);
         for place in 0..words.len() {
-            finds(&rt, words.as_slice(), place);
+            finds(&rt, &words, place);
         }
-        assert_eq!(rt; find_tag(words.as_slice(), 1), None);
+        is_at(&rt, &words, 1, None);
     }
-    Ok(())
 }
 
 #[test]
-fn first_and_last_of_4096_words_are_found(rt: HostRuntime) -> Result<(), Fail> {
-    let words = words_without_1(rt.alloc(), 4096)?;
+fn first_and_last_of_4096_words_are_found(rt: HostRuntime) {
+    let words = words_for(&rt, rt.alloc(), 4096);
     for place in [0, 15, 16, 4080, 4095] {
-        finds(&rt, words.as_slice(), place);
+        finds(&rt, &words, place);
     }
-    assert_eq!(rt; find_tag(words.as_slice(), 1), None);
-    Ok(())
+    is_at(&rt, &words, 1, None);
 }
 
 #[test]
 fn least_of_several_places_is_told(rt: HostRuntime) {
     let mut words = [3; 35];
-    assert_eq!(rt; find_tag(&words, 3), Some(0));
+    is_at(&rt, &words, 3, Some(0));
     words[33] = 4;
     words[34] = 4;
-    assert_eq!(rt; find_tag(&words, 4), Some(33));
+    is_at(&rt, &words, 4, Some(33));
     words[18] = 4;
     words[31] = 4;
-    assert_eq!(rt; find_tag(&words, 4), Some(18));
+    is_at(&rt, &words, 4, Some(18));
 }
 
 // Marks of so many words in an order that neither rises nor falls, each with its own value; then each is read.
 #[test]
-fn marks_of_100_words_keep_each_value(rt: HostRuntime) -> Result<(), Fail> {
-    let mut marks = Marks::with_capacity(rt.alloc(), 100)?;
+fn marks_of_100_words_keep_each_value(rt: HostRuntime) {
+    let mut marks = marks_for(&rt, rt.alloc(), 100);
     for k in 0u8..100 {
         let word = u32::from(k) * 37 % 100;
         marks_so(&rt, &mut marks, word, i32::from(k), Ok(()));
     }
     marks_so(&rt, &mut marks, 100, 0, Err(Full));
     for k in 0u8..100 {
-        assert_eq!(rt; marks.get(u32::from(k) * 37 % 100), Some(i32::from(k)));
+        marked(&rt, &marks, u32::from(k) * 37 % 100, Some(i32::from(k)));
     }
-    assert_eq!(rt; marks.get(100), None);
-    Ok(())
+    marked(&rt, &marks, 100, None);
 }

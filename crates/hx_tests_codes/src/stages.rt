@@ -4,14 +4,15 @@ use hx_check::check::check;
 use hx_check::checked::Checked;
 use hx_check::error::CheckError;
 use hx_code::code::Code;
+use hx_exec::executable::Executable;
 use hx_lex::{LexError, tokens};
 use hx_lower::{LowerError, lower};
 use hx_parse::{ParseError, parse};
 use hx_tree::token::Pos;
-use std::alloc::Global;
+use std::alloc::{AllocError, Global};
 
 /// Which stage refuses a source, and why.
-#[derive(Clone, Copy, Debug)]
+#[derive(Clone, Copy)]
 pub(crate) enum Refused {
     Lex(LexError),
     Parse(ParseError),
@@ -55,4 +56,10 @@ pub(crate) fn checked(alloc: Global, source: &[u8]) -> Result<Checked, Refused> 
 pub(crate) fn compile(alloc: Global, source: &[u8]) -> Result<Code, Refused> {
     let checked = checked(alloc, source)?;
     lower(alloc, &checked).map_err(Refused::Lower)
+}
+
+/// Code that can be executed; in a box it is let go by a call.
+pub(crate) fn executable(alloc: Global, code: Code) -> Result<Box<Executable>, AllocError> {
+    let executable = Executable::new(alloc, code)?;
+    Ok(Box::new(alloc, executable)?)
 }

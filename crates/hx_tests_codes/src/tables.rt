@@ -1,121 +1,115 @@
 // Which instructions stand for the words of lowered code.
 
-use crate::stages::compile;
+use crate::stages::{compile, executable};
 use hx_exec::executable::Executable;
 use hx_instruction::instruction::Instruction;
 use std::alloc::Global;
 use std::process::Abort;
-use std::test::Fail;
 
-// How many instructions the code of a source has, and how many words in it go by themselves.
-fn counted(alloc: Global, source: &[u8]) -> Result<(usize, usize), Fail> {
-    match compile(alloc, source) {
-        Err(_) => Err(Fail::from("refused")),
-        Ok(code) => {
-            let executable = Executable::new(alloc, code)?;
-            let lines = executable.listing().lines;
-            let stops = lines
-                .iter()
-                .filter(|line| matches!(line.instruction, Instruction::Stop))
-                .count();
-            Ok((lines.len() - stops, stops))
-        }
-    }
+// How many instructions a code has, and how many words in it go by themselves.
+fn counted_in(code: &Executable) -> (usize, usize) {
+    let lines = code.listing().lines;
+    let stops = lines
+        .iter()
+        .filter(|line| matches!(line.instruction, Instruction::Stop))
+        .count();
+    (lines.len() - stops, stops)
 }
 
-fn are(rt: &impl Abort, alloc: Global, source: &[u8], instructions: usize) -> Result<(), Fail> {
-    assert_eq!(rt; counted(alloc, source)?, (instructions, 1));
-    Ok(())
+// The same of the code of a source.
+fn counted(alloc: Global, source: &[u8]) -> Option<(usize, usize)> {
+    let code = compile(alloc, source).ok()?;
+    let code = executable(alloc, code).ok()?;
+    Some(counted_in(&code))
+}
+
+fn are(rt: &impl Abort, alloc: Global, source: &[u8], instructions: usize) {
+    assert_eq!(rt; counted(alloc, source), Some((instructions, 1)));
 }
 
 // The 21 words of this main are nine instructions, and none goes by itself: what stops is the end behind them.
 #[test]
-fn lowered_code_has_instructions(rt: HostRuntime) -> Result<(), Fail> {
+fn lowered_code_has_instructions(rt: HostRuntime) {
     are(
         &rt,
         rt.alloc(),
         b"int total; int main(){ int sum=0; for(int i=0;i<10;i++) sum=sum+i; total=sum; }",
         9,
-    )
+    );
 }
 
 // `s=s+a[i]`, of five words, is one of them.
 #[test]
-fn a_sum_with_an_element_is_one(rt: HostRuntime) -> Result<(), Fail> {
+fn a_sum_with_an_element_is_one(rt: HostRuntime) {
     are(
         &rt,
         rt.alloc(),
         b"int a[9]; int main(){ int s=0; for(int i=0;i<9;i++) s=s+a[i]; return s; }",
         10,
-    )
+    );
 }
 
 // `s=m[i*3+s]`, of seven words, is one of them.
 #[test]
-fn an_element_of_a_row_is_one(rt: HostRuntime) -> Result<(), Fail> {
+fn an_element_of_a_row_is_one(rt: HostRuntime) {
     are(
         &rt,
         rt.alloc(),
         b"int m[9]; int main(){ int s=0; for(int i=0;i<3;i++) s=m[i*3+s]; return s; }",
         10,
-    )
+    );
 }
 
 // `if(i%3==0)`, of six words, is one of them.
 #[test]
-fn a_branch_on_a_remainder_is_one(rt: HostRuntime) -> Result<(), Fail> {
+fn a_branch_on_a_remainder_is_one(rt: HostRuntime) {
     are(
         &rt,
         rt.alloc(),
         b"int main(){ int s=0; for(int i=0;i<9;i++) if(i%3==0) s=i; return s; }",
         11,
-    )
+    );
 }
 
 // `i<n` and its branch, of four words, are one of them, where n is a global.
 #[test]
-fn a_branch_on_a_global_is_one(rt: HostRuntime) -> Result<(), Fail> {
+fn a_branch_on_a_global_is_one(rt: HostRuntime) {
     are(
         &rt,
         rt.alloc(),
         b"int n; int main(){ int s=0; for(int i=0;i<n;i++) s=s+i; return s; }",
         10,
-    )
+    );
 }
 
 // `a[1]=5`, `a[1]`, `a[2]`, the sum and its return, and the two words at the end of each function.
 #[test]
-fn an_element_whose_index_is_a_number_is_one(rt: HostRuntime) -> Result<(), Fail> {
+fn an_element_whose_index_is_a_number_is_one(rt: HostRuntime) {
     are(
         &rt,
         rt.alloc(),
         b"int a[3]; int main(){ a[1]=5; return a[1]+a[2]; }",
         7,
-    )
+    );
 }
 
 // `int i=2`, `2*i`, the sum and its return, and the two words at the end.
 #[test]
-fn a_number_before_a_local_is_no_move(rt: HostRuntime) -> Result<(), Fail> {
-    are(&rt, rt.alloc(), b"int main(){ int i=2; return 2*i+1; }", 6)
-}
-
-// How many words go by themselves.
-fn stops_of(alloc: Global, source: &[u8]) -> Result<usize, Fail> {
-    let (_, stops) = counted(alloc, source)?;
-    Ok(stops)
+fn a_number_before_a_local_is_no_move(rt: HostRuntime) {
+    are(&rt, rt.alloc(), b"int main(){ int i=2; return 2*i+1; }", 6);
 }
 
 // Tests on values that are no comparison, and locals that become the value of a test.
+const TESTS: [&[u8]; 3] = [
+    b"int main(){ int s=0; for(int i=0;i<9;i++){ if(i%3) s++; if(i-5) s++; if(i^s) s++; } return s; }",
+    b"int main(){ int n=9; int s=0; while(n/2){ s+=n; n/=2; } return s; }",
+    b"int main(){ int b=0; int c=0; for(int i=0;i<9;i++){ b=i>3&&i<7; c=i==1||b; } return c; }",
+];
+
 #[test]
-fn tests_and_their_values_have_instructions(rt: HostRuntime) -> Result<(), Fail> {
-    let branches =
-        b"int main(){ int s=0; for(int i=0;i<9;i++){ if(i%3) s++; if(i-5) s++; if(i^s) s++; } return s; }";
-    assert_eq!(rt; stops_of(rt.alloc(), branches)?, 1);
-    let halves = b"int main(){ int n=9; int s=0; while(n/2){ s+=n; n/=2; } return s; }";
-    assert_eq!(rt; stops_of(rt.alloc(), halves)?, 1);
-    let values =
-        b"int main(){ int b=0; int c=0; for(int i=0;i<9;i++){ b=i>3&&i<7; c=i==1||b; } return c; }";
-    assert_eq!(rt; stops_of(rt.alloc(), values)?, 1);
-    Ok(())
+fn tests_and_their_values_have_instructions(rt: HostRuntime) {
+    for source in &TESTS {
+        let stops = counted(rt.alloc(), source).map(|(_, stops)| stops);
+        assert_eq!(rt; stops, Some(1));
+    }
 }
