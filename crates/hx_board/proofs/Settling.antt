@@ -101,9 +101,6 @@ foreign_refuses : (b : BoardView) (t : Tag) (f : Frame LocalView) (xs : List (Sl
 foreign_refuses b t f [] = refl
 foreign_refuses b t f (x ∷ later) = refl
 
-pub settle_foreign : (b : BoardView) (t : Tag) (f : Frame LocalView) → is_over b ≡ false → Does b (Settle (token_of t) f false) NotThisFrame (record b { is_out = false })
-settle_foreign b t f over = record { step = runs b (Settle (token_of t) f false) over ∙ foreign_refuses b t f b.active; setup = refl }
-
 -- ---- what the head waits with takes effect
 
 -- the board by what becomes of its head, which goes on from q with this text

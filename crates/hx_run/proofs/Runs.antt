@@ -1,5 +1,5 @@
 -- Runs that go on.
-use Rattle.std.proofs.Common.{◌≡◌, ℕ, zero, suc, ◌+◌, List, ℤ, sym, ap, subst, ◌∙◌, arith}
+use Rattle.std.proofs.Common.{◌≡◌, ℕ, zero, suc, ◌+◌, List, ℤ, ap, subst, ◌∙◌, arith}
 use Rattle.hx_code.specs.Code.{CodeView}
 use Rattle.hx_code.specs.Machine.{Machine, machine_step, machine_after, opening_machine}
 use Rattle.hx_word.specs.Plain.{PlainView, one_store}
@@ -16,13 +16,6 @@ pub record IsReached (code : CodeView) (input : List ℤ) (plain : PlainView) : 
   pub same : plain.code ≡ code
   pub words : ℕ
   pub machine : one_store (after code input words) ≡ plain.machine
-
-pub reached_first : (code : CodeView) (input : List ℤ) (plain : PlainView) → plain ≡ record { code = code; machine = opening_machine code input } → IsReached code input plain
-reached_first code input plain e = record {
-  same = ap (λ p. p.code) e;
-  words = 0;
-  machine = sym (ap (λ p. p.machine) e);
-}
 
 -- what the next words of a machine come to, told of the run
 pub next_words : (code : CodeView) (input : List ℤ) (plain : PlainView) (n : ℕ) (P : CodeView → Machine → Type 0) → (h : IsReached code input plain)

@@ -1,5 +1,5 @@
 -- One bit in a row, and one row among others.
-use Rattle.std.proofs.Common.{◌≡◌, ◌≢◌, ℕ, ◌*◌, ◌%◌, ◌^◌, ◌<◌, ◌≤◌, ◌⊎◌, inl, inr, false, List, length, set, slice_index, bit_or, refl, ap, ◌∙◌, arith, get_or-set_same, get_or-set_other, length-set}
+use Rattle.std.proofs.Common.{◌≡◌, ◌≢◌, ℕ, ◌*◌, ◌%◌, ◌^◌, ◌<◌, ◌⊎◌, inl, inr, false, List, length, set, slice_index, bit_or, ap, ◌∙◌, arith, get_or-set_same, get_or-set_other, length-set}
 use Rattle.std.specs.Prelude.{◌==◌, if◌then◌else◌}
 use Rattle.std.specs.Int.{bit_at}
 use Rattle.std.proofs.lemmas.Nat.{pow_below}
@@ -49,9 +49,3 @@ no_row bit word worker rows a w n = rw (is_other a word n)
 no_bit : (bit word worker : ℕ) (rows : List ℕ) (a w : ℕ) → w ≢ worker → (a ≡ word) ⊎ (a ≢ word) → bit_of rows a w ≡ (if a == word then (if w == worker then bit else bit_of rows a w) else bit_of rows a w)
 no_bit bit word worker rows a w n (inl e) = rw (is_other w worker n) (rw e (rw (eq_same word)))
 no_bit bit word worker rows a w n (inr m) = no_row bit word worker rows a w m
-
-pub row_missing : (bit word worker : ℕ) (rows : List ℕ) → length rows ≤ word → IsWithBit bit word worker rows rows
-row_missing bit word worker rows h = record { long = refl; each = λ a w la lw. no_row bit word worker rows a w (λ e. absurd (omega (arith, e, la, h))) }
-
-pub bit_missing : (bit word worker : ℕ) (rows : List ℕ) → 16 ≤ worker → IsWithBit bit word worker rows rows
-bit_missing bit word worker rows h = record { long = refl; each = λ a w la lw. no_bit bit word worker rows a w (λ e. absurd (omega (arith, e, lw, h))) (same_or_not a word) }

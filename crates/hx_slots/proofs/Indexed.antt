@@ -1,9 +1,7 @@
 -- The index of marks agrees with the marks, whatever is read, passed or begun again.
-use Rattle.std.proofs.Common.{◌≡◌, ◌≢◌, ℕ, zero, suc, ◌+◌, ◌<◌, ◌≤◌, ℤ, ◌⊎◌, inl, inr, Bool, true, false, List, [], ◌∷◌, ◌++◌, length, map, get_or, take, replicate, slice_index, slice_get, add-one, Option, Some, None, refl, sym, ap, ◌∙◌, subst, arith}
+use Rattle.std.proofs.Common.{◌≡◌, ◌≢◌, ℕ, zero, suc, ◌+◌, ◌<◌, ℤ, ◌⊎◌, inl, inr, Bool, true, false, List, [], ◌∷◌, ◌++◌, length, map, get_or, take, slice_get, add-one, Option, Some, None, refl, sym, ap, ◌∙◌, subst, arith}
 use Rattle.std.specs.Prelude.{◌==◌, if◌then◌else◌}
 use Rattle.std.specs.Int.{bit_at}
-use Rattle.std.proofs.lemmas.List.{get_or-replicate, length-replicate}
-use Rattle.std.proofs.lemmas.Nat.Bits.{bit_at-zero}
 use Rattle.hx_marks.specs.declared.marks.Entry.{Entry}
 use Rattle.hx_marks.specs.Table.{Table, look, put}
 use Rattle.hx_marks.proofs.Tables.{look_put_own, look_put_other}
@@ -82,12 +80,6 @@ index_behind rows xs ys empty h = index_same rows xs (xs ++ ys) (λ w. behind_ma
 
 pub index_restarted : (rows : List ℕ) (xs ys : List (Slot LocalView)) → IsIndexOf rows xs → IsIndexOf rows (xs ++ map restarted ys)
 index_restarted rows xs ys h = index_behind rows xs (map restarted ys) (restarted_empty ys) h
-
-pub index_empty : (n : ℕ) (rows : List ℕ) → rows ≡ replicate n 0 → IsIndexOf rows []
-index_empty n rows e a w la lw =
-    let fits : a < n = omega (arith, la, ap length e, length-replicate {A = ℕ} n 0) in
-    let zero_row : slice_index rows a ≡ 0 = ap (λ r. slice_index r a) e ∙ get_or-replicate n a 0 0 fits in
-    ap (λ r. bit_at r w) zero_row ∙ bit_at-zero w
 
 -- ---- an iteration's marks go
 
@@ -203,9 +195,6 @@ clear_more t k worker e old mid new is before now = record {
 -- a worker without bits
 no_bits : (a w worker old : ℕ) (o : Option ℤ) → w ≢ worker → old ≡ (if w == worker then unless o old else old)
 no_bits a w worker old o n = rw (is_other w worker n)
-
-pub without_bits : (t : Table) (worker : ℕ) (rows : List ℕ) → 16 ≤ worker → IsWithout t worker rows rows
-without_bits t worker rows h = record { long = refl; each = λ a w la lw. no_bits a w worker (bit_of rows a w) (look t a) (λ e. absurd (omega (arith, e, lw, h))) }
 
 pub without_none : (worker : ℕ) (rows : List ℕ) → IsWithout [] worker rows rows
 without_none worker rows = record { long = refl; each = λ a w la lw. either_same (w == worker) (bit_of rows a w) }

@@ -102,10 +102,6 @@ store_index rows xs k first y d to later e f is h =
 pub restart_index : (rows : List ℕ) (xs : List SlotView) (first : ℕ) (to later : List (Slot LocalView)) → to ≡ slots_of (take first xs) ++ map restarted later → IsIndexOf rows (slots_of (take first xs)) → IsIndexOf rows to
 restart_index rows xs first to later is h = subst (IsIndexOf rows) (sym is) (index_restarted rows (slots_of (take first xs)) later h)
 
-pub drain_index : (rows : List ℕ) (xs : List SlotView) (y d : SlotView) → 0 < length xs → y.slot.worker ≡ (get_or xs 0 d).slot.worker → y.slot.marks ≡ (get_or xs 0 d).slot.marks → IsIndexOf rows (slots_of xs) → IsIndexOf rows (slots_of (set xs 0 y))
-drain_index rows [] y d lt e f h = h
-drain_index rows (x ∷ xs) y d lt e f h = index_same rows (slots_of (x ∷ xs)) (slots_of (y ∷ xs)) (λ w. ap₂ (λ v t. if v == w then t else marks_of w (slots_of xs)) e f) h
-
 -- ---- the head
 
 first_gone : (old new : List ℕ) (x : SlotView) (xs : List SlotView) → AreApart (workers_of (slots_of (x ∷ xs))) → IsIndexOf old (slots_of (x ∷ xs)) → IsWithout x.slot.marks x.slot.worker old new → IsIndexOf new (slots_of xs)
@@ -133,10 +129,6 @@ renew_index old new (x ∷ xs) y d lt apart h gone e f =
     index_same new (slots_of xs) (slots_of (y ∷ xs))
     (λ w. ap₂ (λ v t. if v == w then t else marks_of w (slots_of xs)) e f ∙ renewed_marks w x.slot.worker (slots_of xs) apart.0 (same_or_not x.slot.worker w))
     (first_gone old new x xs apart h gone)
-
-pub renew_step : (xs : List SlotView) (x y : SlotView) (t : Table) (w : ℕ) (old new : List ℕ) → 0 < length xs → x ≡ get_or xs 0 x → t ≡ x.slot.marks → w ≡ x.slot.worker → AreApart (workers_of (slots_of xs)) → IsIndexOf old (slots_of xs) → IsWithout t w old new → y.slot.worker ≡ x.slot.worker → y.slot.marks ≡ [] → IsIndexOf new (slots_of (set xs 0 y))
-renew_step xs x y t w old new lt is marks worker apart h gone own none =
-    renew_index old new xs y x lt apart h (gone_first xs x t w old new is marks worker gone) (own ∙ ap (λ (z : SlotView). z.slot.worker) is) none
 
 -- ---- the next iteration
 

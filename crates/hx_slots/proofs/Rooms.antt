@@ -23,11 +23,6 @@ rooms_set r [] k x e h = tt
 rooms_set r (y ∷ xs) zero x e h = (e, h.1)
 rooms_set r (y ∷ xs) (suc k) x e h = (h.0, rooms_set r xs k x e h.1)
 
-pub rooms_take : (r : Capacities) (xs : List SlotView) (k : ℕ) → HaveRooms r xs → HaveRooms r (take k xs)
-rooms_take r xs zero h = tt
-rooms_take r [] (suc k) h = tt
-rooms_take r (x ∷ xs) (suc k) h = (h.0, rooms_take r xs k h.1)
-
 -- where all have the same rooms as others
 pub rooms_same : (r : Capacities) (xs ys : List SlotView) → rooms_of ys ≡ rooms_of xs → HaveRooms r xs → HaveRooms r ys
 rooms_same r [] [] e h = tt

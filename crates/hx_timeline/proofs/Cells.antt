@@ -4,10 +4,6 @@ use Rattle.std.specs.List.{range_with_len}
 use Rattle.std.proofs.lemmas.List.{replicate-append-replicate}
 use Rattle.hx_timeline.specs.Columns.{blanks_ahead, cell_ahead, lanes_from, PutsCell}
 
-pub no_blanks : (rest : List ℕ) → blanks_ahead 0 rest ≡ rest
-no_blanks [] = refl
-no_blanks (b ∷ bs) = refl
-
 -- blanks behind blanks
 pub blanks_add : (m n : ℕ) (rest : List ℕ) → blanks_ahead m (blanks_ahead n rest) ≡ blanks_ahead (m + n) rest
 blanks_add m n [] = refl
@@ -18,13 +14,6 @@ blanks_add m (suc n) (b ∷ bs) = sym (append_assoc (replicate m 32) (replicate 
 pub blank_cell : (blanks width left : ℕ) (cell rest : List ℕ) → cell ≡ [] → left ≡ blanks + max (width - length cell) 1 → blanks_ahead left rest ≡ blanks_ahead blanks (cell_ahead width cell rest)
 blank_cell blanks width left [] rest e is = ap (λ n. blanks_ahead n rest) is ∙ sym (blanks_add blanks (max (width - 0) 1) rest)
 blank_cell blanks width left (x ∷ xs) rest e is = absurd cc
-
--- another stands behind its blanks
-pub whole_cell : (old new : List ℕ) (blanks width left : ℕ) (cell rest : List ℕ) → 0 < length cell → left ≡ max (width - length cell) 1 → new ≡ (old ++ replicate blanks 32) ++ cell → new ++ blanks_ahead left rest ≡ old ++ blanks_ahead blanks (cell_ahead width cell rest)
-whole_cell old new blanks width left [] rest some is put = absurd (omega (arith, some))
-whole_cell old new blanks width left (x ∷ xs) rest some is put =
-    ap (λ l. l ++ blanks_ahead left rest) put ∙ append_assoc (old ++ replicate blanks 32) (x ∷ xs) (blanks_ahead left rest) ∙ append_assoc old (replicate blanks 32) ((x ∷ xs) ++ blanks_ahead left rest)
-    ∙ ap (λ n. old ++ (replicate blanks 32 ++ ((x ∷ xs) ++ blanks_ahead n rest))) is
 
 module _ (words : ℕ → List ℕ) (n w : ℕ) (whole : List ℕ) where
   -- the lanes of the workers from this one on

@@ -1,5 +1,5 @@
 -- A schedule, entry by entry.
-use Rattle.std.proofs.Common.{◌≡◌, ℕ, zero, suc, ◌<◌, List, [], ◌∷◌, ◌++◌, length, All, Option, Some, None, Result, Ok, Err, IfOk, refl, ap, sym, subst, ◌∙◌, arith, append_assoc}
+use Rattle.std.proofs.Common.{◌≡◌, ℕ, zero, suc, ◌<◌, List, [], ◌∷◌, ◌++◌, length, All, Option, Some, None, Result, Ok, Err, IfOk, refl, ap, sym, subst, ◌∙◌, arith}
 use Rattle.std.specs.Prelude.{if◌then◌else◌, slice_get, slice_index_or}
 use std.Path.{fun_ext}
 use Rattle.std.proofs.lemmas.List.Elements.{All-push}
@@ -66,10 +66,6 @@ tells code r e slots rooms xs schedule first b t new is led told =
       state = told.state ∙ ap (λ (c : Board LocalView). state_of c.exit) (sym same);
       counts = told.counts ∙ ap (λ (c : Board LocalView). c.counts) (sym same);
     }
-
--- one entry more is told
-pub told_more : (told rest all : List Event) (e : Event) → told ++ e ∷ rest ≡ all → (told ++ e ∷ []) ++ rest ≡ all
-told_more told rest all e is = append_assoc told (e ∷ []) rest ∙ is
 
 pub tells_events : (code : CodeView) (r : ℕ) (e : Entry) (slots : ℕ) (rooms : Rooms) (xs : List Worker) (schedule : List ℕ) (first : BoardView) (events : List Event) → All (IsNew code rooms) xs → first ≡ opening_board code r e slots rooms → events ≡ events_of (course_of first.setup) schedule (world_of first xs None) → events ≡ events_from code r e slots rooms schedule
 tells_events code r e slots rooms xs schedule first events new is led =

@@ -1,5 +1,5 @@
 -- What is asked, by its name.
-use Rattle.std.proofs.Common.{◌≡◌, ◌≢◌, ◌<◌, ◌≤◌, ℕ, ℤ, List, arith, sym, subst, ◌∙◌}
+use Rattle.std.proofs.Common.{◌≡◌, ◌≢◌, ℕ, ℤ, List, sym, subst, ◌∙◌}
 use Rattle.hx_code.specs.declared.word.Ask.{Ask}
 use Rattle.hx_code.specs.declared.word.Ask.TheVariants.{Goes}
 use Rattle.hx_code.specs.declared.word.Next.{Next}
@@ -17,10 +17,6 @@ asked_as code k l s s' m t t' ask as_this next w before after is other =
 pub went_as : (code : CodeView) (k : ℕ) (l : LocalView) (s s' : List ℤ) (m : LocalView) (t t' : List ℤ) → LocalGoingOver code k l s m t → s ≡ s' → t ≡ t' → LocalGoingOver code k l s' m t'
 went_as code k l s s' m t t' w before after =
     subst (λ x. LocalGoingOver code k l s' m x) after (subst (λ x. LocalGoingOver code k l x m t) before w)
-
--- a store lacks no word that it has
-pub lacks_none : (n a : ℕ) → n ≤ a → a < n → ⊥
-lacks_none n a le lt = omega arith
 
 pub isnt_goes : (ask as_this : Ask) → ask ≡ as_this → as_this ≢ Goes → ask ≢ Goes
 isnt_goes ask as_this is other = λ e. other (sym is ∙ e)

@@ -1,7 +1,6 @@
 // A region's entry and its end.
 
 ghost use Rattle.std.specs.Prelude.{◌≡◌, ◌+◌, ◌<◌, ◌≤◌, ◌++◌, length, drop, slice_get, Some, IfOk};
-ghost use Rattle.hx_code.specs.Code.{store_words};
 ghost use Rattle.hx_word.specs.Opening.{opened_of};
 ghost use Rattle.hx_word.specs.Entry.{privates_in, EntryFits, IsEntryOf, opened_from};
 ghost use Rattle.hx_word.specs.Running.{IsOpened};

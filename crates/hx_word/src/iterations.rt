@@ -1,6 +1,6 @@
 // The iterations of a region, one after another.
 
-ghost use Rattle.std.specs.Prelude.{◌≡◌, ◌≢◌, ◌+◌, ◌≤◌, ℕ, ℤ, List, suc, Some, None, IfOk, length, vec_len, vec_capacity};
+ghost use Rattle.std.specs.Prelude.{◌≡◌, ◌≢◌, ◌+◌, ◌≤◌, ℤ, List, Some, None, IfOk, length, vec_len, vec_capacity};
 ghost use Rattle.hx_code.specs.Region.{region_after, region_opening, opening};
 ghost use Rattle.hx_word.specs.Opening.{opened_of};
 ghost use Rattle.hx_word.specs.Running.{running, IsOpened, RunsWell, BeforeLast};

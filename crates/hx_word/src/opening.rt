@@ -1,6 +1,6 @@
 // The store as a run begins.
 
-ghost use Rattle.std.specs.Prelude.{◌≡◌, ◌≤◌, ◌++◌, IfOk, replicate, pos};
+ghost use Rattle.std.specs.Prelude.{◌≡◌, IfOk};
 ghost use Rattle.hx_code.specs.Machine.{InputFits, room_for_input, opening_store as store_of, filled};
 
 use hx_exec::executable::Executable;
