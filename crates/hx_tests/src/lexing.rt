@@ -1,12 +1,12 @@
 // Sources and their tokens, worked out by hand from the language's rules, and the texts of the lexer's refusals.
 
+use crate::answers::{expect, is_shown};
 use hx_lex::{LexError, Span, Token, tokens};
 use hx_tree::token::{Kind, Mark, Pos};
 use std::alloc::{AllocError, Global};
 use std::process::Abort;
-use std::test::Fail;
 
-const KEYWORDS: [(&[u8], Mark); 14] = [
+static KEYWORDS: [(&[u8], Mark); 14] = [
     (b"int", Mark::Int),
     (b"void", Mark::Void),
     (b"if", Mark::If),
@@ -23,7 +23,7 @@ const KEYWORDS: [(&[u8], Mark); 14] = [
     (b"emit", Mark::Emit),
 ];
 
-const PUNCTUATORS: [(&[u8], Mark); 43] = [
+static PUNCTUATORS: [(&[u8], Mark); 43] = [
     (b"(", Mark::OpenParen),
     (b")", Mark::CloseParen),
     (b"{", Mark::OpenBrace),
@@ -70,7 +70,7 @@ const PUNCTUATORS: [(&[u8], Mark); 43] = [
 ];
 
 /// Two punctuators with nothing between them that are read as others: the two, and what is read.
-const MERGED: [(&[u8], &[u8], &[u8]); 52] = [
+static MERGED: [(&[u8], &[u8], &[u8]); 52] = [
     (b"=", b"=", b"== "),
     (b"=", b"==", b"== = "),
     (b"+", b"=", b"+= "),
@@ -125,20 +125,36 @@ const MERGED: [(&[u8], &[u8], &[u8]); 52] = [
     (b">>", b"==", b">>= = "),
 ];
 
-/// The texts of a source's tokens, with a blank behind each, or that a comment is open.
-fn texts(alloc: Global, source: &[u8]) -> Result<Vec<u8>, LexError> {
-    let mut all = Vec::new(alloc);
-    match tokens(alloc, source) {
-        Ok(tokens) => {
-            for token in &tokens {
-                all.extend_from_slice(token.text)?;
-                all.push(b' ')?;
-            }
+/// Whether these are the texts of the tokens, with a blank behind each.
+fn are_texts(tokens: &[Token<'_>], texts: &[u8]) -> bool {
+    let mut rest = texts;
+    for token in tokens {
+        match rest.strip_prefix(token.text) {
+            Some([b' ', behind @ ..]) => rest = behind,
+            _ => return false,
         }
-        Err(LexError::OpenComment(_)) => all.extend_from_slice(b"open comment")?,
-        Err(e) => return Err(e),
     }
-    Ok(all)
+    rest.is_empty()
+}
+
+/// Whether a source's tokens have these texts, or a comment is open where that is wanted.
+fn has_texts(alloc: Global, source: &[u8], texts: &[u8]) -> bool {
+    match tokens(alloc, source) {
+        Ok(tokens) => are_texts(tokens.as_slice(), texts),
+        Err(LexError::OpenComment(_)) => texts == b"open comment".as_slice(),
+        Err(_) => false,
+    }
+}
+
+/// Whether a source's tokens have these two texts.
+fn has_both(alloc: Global, source: &[u8], first: &[u8], second: &[u8]) -> bool {
+    match tokens(alloc, source) {
+        Ok(tokens) => match tokens.as_slice() {
+            [one, other] => one.text == first && other.text == second,
+            _ => false,
+        },
+        Err(_) => false,
+    }
 }
 
 fn is_same(a: &[u8], b: &[u8]) -> bool {
@@ -154,21 +170,38 @@ fn merged(first: &[u8], second: &[u8]) -> Option<&'static [u8]> {
     None
 }
 
-/// What two punctuators with nothing between them are read as.
-fn pair_texts(alloc: Global, first: &[u8], second: &[u8]) -> Result<Vec<u8>, AllocError> {
-    if let Some(text) = merged(first, second) {
-        return text.to_vec(alloc);
+fn joined(alloc: Global, first: &[u8], second: &[u8]) -> Result<Vec<u8>, AllocError> {
+    let mut source = first.to_vec(alloc)?;
+    source.extend_from_slice(second)?;
+    Ok(source)
+}
+
+/// Whether the source that two punctuators make is read as it is to be.
+fn is_right(alloc: Global, source: &[u8], first: &[u8], second: &[u8]) -> bool {
+    match merged(first, second) {
+        Some(texts) => has_texts(alloc, source, texts),
+        None => has_both(alloc, source, first, second),
     }
-    let mut all = Vec::new(alloc);
-    all.extend_from_slice(first)?;
-    all.push(b' ')?;
-    all.extend_from_slice(second)?;
-    all.push(b' ')?;
-    Ok(all)
+}
+
+fn is_right_pair(alloc: Global, first: &[u8], second: &[u8]) -> bool {
+    match joined(alloc, first, second) {
+        Ok(source) => is_right(alloc, source.as_slice(), first, second),
+        Err(_) => false,
+    }
+}
+
+/// That a punctuator is read as it is to be before each of these, with nothing between them.
+fn expect_pairs(rt: &impl Abort, alloc: Global, first: &[u8], rows: &[(&[u8], Mark)]) {
+    for (second, _) in rows {
+        assert!(rt; is_right_pair(alloc, first, second), "{first:?} {second:?}");
+    }
 }
 
 /// The number of a refusal, and its line and column, or zeros where there are none.
-fn refusal(alloc: Global, source: &[u8]) -> (u32, u32, u32) {
+type Refusal = (u32, u32, u32);
+
+fn refusal(alloc: Global, source: &[u8]) -> Refusal {
     match tokens(alloc, source) {
         Ok(_) => (0, 0, 0),
         Err(e) => match e.pos() {
@@ -178,266 +211,303 @@ fn refusal(alloc: Global, source: &[u8]) -> (u32, u32, u32) {
     }
 }
 
-fn expect_texts(
-    rt: &impl Abort,
-    alloc: Global,
-    source: &[u8],
-    wanted: &[u8],
-) -> Result<(), LexError> {
-    let read = texts(alloc, source)?;
-    assert_eq!(rt; read.as_slice(), wanted, "{source:?}");
-    Ok(())
+fn expect_texts(rt: &impl Abort, alloc: Global, source: &[u8], texts: &[u8]) {
+    expect(rt, has_texts(alloc, source, texts), source);
 }
 
-fn expect_refusal(rt: &impl Abort, alloc: Global, source: &[u8], wanted: (u32, u32, u32)) {
-    assert_eq!(rt; refusal(alloc, source), wanted, "{source:?}");
+fn expect_refusal(rt: &impl Abort, alloc: Global, source: &[u8], wanted: Refusal) {
+    expect(rt, refusal(alloc, source) == wanted, source);
 }
 
-/// That a source is one token of this kind.
+fn expect_refusals(rt: &impl Abort, alloc: Global, rows: &[(&[u8], Refusal)]) {
+    for (source, wanted) in rows {
+        expect_refusal(rt, alloc, source, *wanted);
+    }
+}
+
+/// Whether a token is the whole of a source, and of this kind.
+fn is_whole(token: &Token<'_>, source: &[u8], kind: Kind) -> bool {
+    let end = source.len();
+    token.kind == kind && token.text == source && is_at(token, Span { start: 0, end }, FIRST)
+}
+
+const FIRST: Pos = Pos { line: 1, col: 1 };
+
+fn is_at(token: &Token<'_>, span: Span, pos: Pos) -> bool {
+    token.span == span && token.pos == pos
+}
+
+/// Whether a source is one token of this kind.
 fn is_one(alloc: Global, source: &[u8], kind: Kind) -> bool {
     match tokens(alloc, source) {
         Ok(tokens) => match tokens.as_slice() {
-            [token] => {
-                token.kind == kind
-                    && token.text == source
-                    && token.span
-                        == Span {
-                            start: 0,
-                            end: source.len(),
-                        }
-                    && token.pos == Pos { line: 1, col: 1 }
-            }
+            [token] => is_whole(token, source, kind),
             _ => false,
         },
         Err(_) => false,
     }
 }
 
-#[test]
-fn each_mark_alone(rt: HostRuntime) {
-    for entry in &KEYWORDS {
-        assert!(rt;
-            is_one(rt.alloc(), entry.0, Kind::Mark(entry.1)),
-            "{:?}",
-            entry.0
-        );
-    }
-    for entry in &PUNCTUATORS {
-        assert!(rt;
-            is_one(rt.alloc(), entry.0, Kind::Mark(entry.1)),
-            "{:?}",
-            entry.0
-        );
+fn expect_one(rt: &impl Abort, alloc: Global, source: &[u8], kind: Kind) {
+    expect(rt, is_one(alloc, source, kind), source);
+}
+
+fn expect_marks(rt: &impl Abort, alloc: Global, rows: &[(&[u8], Mark)]) {
+    for (text, mark) in rows {
+        expect_one(rt, alloc, text, Kind::Mark(*mark));
     }
 }
 
 #[test]
-fn each_mark_before_each_other(rt: HostRuntime) -> Result<(), Fail> {
-    for first in &PUNCTUATORS {
-        for second in &PUNCTUATORS {
-            let mut source = Vec::new(rt.alloc());
-            source.extend_from_slice(first.0)?;
-            source.extend_from_slice(second.0)?;
-            let wanted = pair_texts(rt.alloc(), first.0, second.0)?;
-            expect_texts(&rt, rt.alloc(), source.as_slice(), wanted.as_slice())?;
-        }
-    }
-    Ok(())
+fn each_mark_alone(rt: HostRuntime) {
+    expect_marks(&rt, rt.alloc(), &KEYWORDS);
+    expect_marks(&rt, rt.alloc(), &PUNCTUATORS);
 }
+
+#[test]
+fn each_mark_before_each_other(rt: HostRuntime) {
+    for (first, _) in &PUNCTUATORS {
+        expect_pairs(&rt, rt.alloc(), first, &PUNCTUATORS);
+    }
+}
+
+static NAMES: [&[u8]; 8] = [
+    b"x", b"_", b"intx", b"_int", b"Int", b"pfor2", b"If", b"i_1",
+];
+
+static LONG_NAME: &[u8] = b"int aaaaaaaaaaaaaaaaaaaaaaaaaaaaaaaaaaaaaaaaaaaaaaaaaaaaaaaaaaaaaaaa;";
 
 #[test]
 fn names_and_keywords(rt: HostRuntime) {
-    for name in [
-        b"x".as_slice(),
-        b"_",
-        b"intx",
-        b"_int",
-        b"Int",
-        b"pfor2",
-        b"If",
-        b"i_1",
-    ] {
-        assert!(rt; is_one(rt.alloc(), name, Kind::Name), "{name:?}");
+    let alloc = rt.alloc();
+    for name in &NAMES {
+        expect_one(&rt, alloc, name, Kind::Name);
     }
-    assert!(rt; is_one(rt.alloc(), [b'a'; 63].as_slice(), Kind::Name));
-    assert_eq!(rt; refusal(rt.alloc(), [b'a'; 64].as_slice()), (4, 1, 1));
-    assert_eq!(rt;
-        refusal(
-            rt.alloc(),
-            b"int aaaaaaaaaaaaaaaaaaaaaaaaaaaaaaaaaaaaaaaaaaaaaaaaaaaaaaaaaaaaaaaa;"
-        ),
-        (4, 1, 5)
-    );
+    expect_one(&rt, alloc, &[b'a'; 63], Kind::Name);
+    expect_refusal(&rt, alloc, &[b'a'; 64], (4, 1, 1));
+    expect_refusal(&rt, alloc, LONG_NAME, (4, 1, 5));
 }
+
+static NUMBERS: [(&[u8], u32); 3] = [(b"0", 0), (b"10", 10), (b"2147483647", 2147483647)];
+
+static BAD_CONSTANTS: [(&[u8], Refusal); 9] = [
+    (b"2147483648", (2, 1, 1)),
+    (b"99999999999999999999", (2, 1, 1)),
+    (b"08", (2, 1, 1)),
+    (b"00", (2, 1, 1)),
+    (b"0x1", (2, 1, 1)),
+    (b"1a", (2, 1, 1)),
+    (b"1_", (2, 1, 1)),
+    (b"0_", (2, 1, 1)),
+    (b"int main(){ int x=08; }", (2, 1, 19)),
+];
 
 #[test]
 fn constants(rt: HostRuntime) {
-    assert!(rt; is_one(rt.alloc(), b"0", Kind::Number(0)));
-    assert!(rt; is_one(rt.alloc(), b"10", Kind::Number(10)));
-    assert!(rt; is_one(rt.alloc(), b"2147483647", Kind::Number(2147483647)));
-    for text in [
-        b"2147483648".as_slice(),
-        b"99999999999999999999",
-        b"08",
-        b"00",
-        b"0x1",
-        b"1a",
-        b"1_",
-        b"0_",
-    ] {
-        expect_refusal(&rt, rt.alloc(), text, (2, 1, 1));
+    for (text, number) in &NUMBERS {
+        expect_one(&rt, rt.alloc(), text, Kind::Number(*number));
     }
-    expect_refusal(&rt, rt.alloc(), b"int main(){ int x=08; }", (2, 1, 19));
+    expect_refusals(&rt, rt.alloc(), &BAD_CONSTANTS);
 }
+
+/// Sources with white space and comments, and the texts of their tokens.
+static SPACED: [(&[u8], &[u8]); 12] = [
+    (b"", b""),
+    (b" \t\r\n", b""),
+    (b"//", b""),
+    (b"// $\xff", b""),
+    (b"/**/", b""),
+    (b"/* // */", b""),
+    (b"// /*\n", b""),
+    (b"/*/*/", b""),
+    (b"/*\n*\n/ **/", b""),
+    (b"a/*$*/b//c\nd", b"a b d "),
+    (b"a/b/ /c*/d", b"a / b / / c * / d "),
+    (b"/**/*/**/", b"* "),
+];
+
+static OPEN_COMMENTS: [(&[u8], Refusal); 6] = [
+    (b"/* x", (3, 1, 1)),
+    (b"/*", (3, 1, 1)),
+    (b"/*/", (3, 1, 1)),
+    (b"/* *", (3, 1, 1)),
+    (b"/* * /", (3, 1, 1)),
+    (b"a\n /*\n", (3, 2, 2)),
+];
 
 #[test]
-fn white_space_and_comments(rt: HostRuntime) -> Result<(), Fail> {
-    let alloc = rt.alloc();
-    let none = [
-        b"".as_slice(),
-        b" \t\r\n",
-        b"//",
-        b"// $\xff",
-        b"/**/",
-        b"/* // */",
-        b"// /*\n",
-        b"/*/*/",
-        b"/*\n*\n/ **/",
-    ];
-    for source in none {
-        expect_texts(&rt, alloc, source, b"")?;
+fn white_space_and_comments(rt: HostRuntime) {
+    for (source, texts) in &SPACED {
+        expect_texts(&rt, rt.alloc(), source, texts);
     }
-    expect_texts(&rt, alloc, b"a/*$*/b//c\nd", b"a b d ")?;
-    expect_texts(&rt, alloc, b"a/b/ /c*/d", b"a / b / / c * / d ")?;
-    expect_texts(&rt, alloc, b"/**/*/**/", b"* ")?;
-    for source in [b"/* x".as_slice(), b"/*", b"/*/", b"/* *", b"/* * /"] {
-        expect_refusal(&rt, alloc, source, (3, 1, 1));
-    }
-    expect_refusal(&rt, alloc, b"a\n /*\n", (3, 2, 2));
-    Ok(())
+    expect_refusals(&rt, rt.alloc(), &OPEN_COMMENTS);
 }
 
-/// That a byte is read as it is to be: as a token, as white space or not at all.
-fn expect_byte(rt: &impl Abort, b: u8, answer: (u32, u32, u32), is_token: bool) {
+/// Whether a byte is read as it is to be: as a token, as white space or not at all.
+fn is_right_byte(b: u8, answer: Refusal, is_token: bool) -> bool {
     match b {
-        b'\t' | b'\n' | b'\r' | b' ' => assert!(rt; answer == (0, 0, 0) && !is_token, "{b}"),
-        b'a'..=b'z' | b'A'..=b'Z' | b'_' | b'0'..=b'9' => assert!(rt; is_token, "{b}"),
-        _ if b"(){}[],;=+-*/%&|^~!<>?:".contains(&b) => assert!(rt; is_token, "{b}"),
-        _ => assert_eq!(rt; answer, (1, 1, 1), "{b}"),
+        b'\t' | b'\n' | b'\r' | b' ' => answer == (0, 0, 0) && !is_token,
+        b'a'..=b'z' | b'A'..=b'Z' | b'_' | b'0'..=b'9' => is_token,
+        _ if b"(){}[],;=+-*/%&|^~!<>?:".contains(&b) => is_token,
+        _ => answer == (1, 1, 1),
+    }
+}
+
+fn is_token(alloc: Global, source: &[u8]) -> bool {
+    match tokens(alloc, source) {
+        Ok(tokens) => tokens.len() == 1,
+        Err(_) => false,
     }
 }
 
 #[test]
-fn each_byte_alone(rt: HostRuntime) -> Result<(), Fail> {
+fn each_byte_alone(rt: HostRuntime) {
+    let alloc = rt.alloc();
     for b in 0..=255u8 {
         let source = [b];
-        let answer = refusal(rt.alloc(), &source);
-        let is_token = tokens(rt.alloc(), &source).is_ok_and(|tokens| tokens.len() == 1);
-        expect_byte(&rt, b, answer, is_token);
-        expect_texts(&rt, rt.alloc(), &[b'/', b'*', b, b'*', b'/'], b"")?;
+        let is_right = is_right_byte(b, refusal(alloc, &source), is_token(alloc, &source));
+        expect(&rt, is_right, &source);
+        expect_texts(&rt, alloc, &[b'/', b'*', b, b'*', b'/'], b"");
     }
-    Ok(())
 }
+
+static LEFTMOST: [(&[u8], Refusal); 5] = [
+    (b"int $x;", (1, 1, 5)),
+    (b"08 $ /*", (2, 1, 1)),
+    (b"\n\n  $ 08 /*", (1, 3, 3)),
+    (b"x /* 08 $", (3, 1, 3)),
+    (b"// $\n\t@", (1, 2, 2)),
+];
 
 #[test]
 fn the_leftmost_fault(rt: HostRuntime) {
-    let alloc = rt.alloc();
-    expect_refusal(&rt, alloc, b"int $x;", (1, 1, 5));
-    expect_refusal(&rt, alloc, b"08 $ /*", (2, 1, 1));
-    expect_refusal(&rt, alloc, b"\n\n  $ 08 /*", (1, 3, 3));
-    expect_refusal(&rt, alloc, b"x /* 08 $", (3, 1, 3));
-    expect_refusal(&rt, alloc, b"// $\n\t@", (1, 2, 2));
+    expect_refusals(&rt, rt.alloc(), &LEFTMOST);
 }
 
-fn expect_place(rt: &impl Abort, token: &Token<'_>, kind: Kind, span: Span, pos: Pos) {
-    assert_eq!(rt; token.kind, kind);
-    assert_eq!(rt; token.span, span);
-    assert_eq!(rt; token.pos, pos);
-}
+static PLACES: [(Kind, Span, Pos); 6] = [
+    (
+        Kind::Mark(Mark::Int),
+        Span { start: 0, end: 3 },
+        Pos { line: 1, col: 1 },
+    ),
+    (
+        Kind::Name,
+        Span { start: 7, end: 8 },
+        Pos { line: 2, col: 3 },
+    ),
+    (
+        Kind::Mark(Mark::Assign),
+        Span { start: 14, end: 15 },
+        Pos { line: 4, col: 3 },
+    ),
+    (
+        Kind::Mark(Mark::Decrement),
+        Span { start: 16, end: 18 },
+        Pos { line: 4, col: 5 },
+    ),
+    (
+        Kind::Number(1),
+        Span { start: 18, end: 19 },
+        Pos { line: 4, col: 7 },
+    ),
+    (
+        Kind::Mark(Mark::Semicolon),
+        Span { start: 19, end: 20 },
+        Pos { line: 4, col: 8 },
+    ),
+];
 
-#[test]
-fn places(rt: HostRuntime) -> Result<(), Fail> {
-    let source = b"int\r\n  x/*\n\n*/= --1;\n".as_slice();
-    expect_texts(&rt, rt.alloc(), source, b"int x = -- 1 ; ")?;
-    let wanted = [
-        (Kind::Mark(Mark::Int), 0, 3, 1, 1),
-        (Kind::Name, 7, 8, 2, 3),
-        (Kind::Mark(Mark::Assign), 14, 15, 4, 3),
-        (Kind::Mark(Mark::Decrement), 16, 18, 4, 5),
-        (Kind::Number(1), 18, 19, 4, 7),
-        (Kind::Mark(Mark::Semicolon), 19, 20, 4, 8),
-    ];
-    let tokens = tokens(rt.alloc(), source)?;
-    for (token, (kind, start, end, line, col)) in tokens.iter().zip(wanted) {
-        expect_place(&rt, token, kind, Span { start, end }, Pos { line, col });
+fn are_at_places(tokens: &[Token<'_>]) -> bool {
+    for (token, (kind, span, pos)) in tokens.iter().zip(&PLACES) {
+        if token.kind != *kind || !is_at(token, *span, *pos) {
+            return false;
+        }
     }
-    Ok(())
+    true
 }
 
-#[test]
-fn the_length_of_a_source(rt: HostRuntime) -> Result<(), Fail> {
-    let mut source = vec![in rt.alloc(); b' '; 65536]?;
-    expect_texts(&rt, rt.alloc(), source.as_slice(), b"")?;
-    source.push(b' ')?;
-    expect_refusal(&rt, rt.alloc(), source.as_slice(), (5, 0, 0));
-    source.fill(b'$');
-    expect_refusal(&rt, rt.alloc(), source.as_slice(), (5, 0, 0));
-    Ok(())
-}
-
-fn tells(
-    rt: &impl Abort,
-    alloc: Global,
-    error: LexError,
-    number: u32,
-    place: Option<Pos>,
-    text: &str,
-) -> Result<(), AllocError> {
-    let shown = format!(in alloc; "{error}")?;
-    assert_eq!(rt; shown.as_str(), text);
-    assert_eq!(rt; error.number(), number);
-    assert_eq!(rt; error.pos(), place);
-    Ok(())
-}
-
-#[test]
-fn numbers_places_and_texts(rt: HostRuntime) -> Result<(), Fail> {
-    let pos = Pos { line: 3, col: 14 };
-    let all = [
-        (
-            LexError::ForeignByte(pos),
-            1,
-            Some(pos),
-            "a byte that begins no token at 3:14",
-        ),
-        (
-            LexError::BadConstant(pos),
-            2,
-            Some(pos),
-            "no constant at 3:14",
-        ),
-        (
-            LexError::OpenComment(pos),
-            3,
-            Some(pos),
-            "a comment without an end at 3:14",
-        ),
-        (
-            LexError::LongName(pos),
-            4,
-            Some(pos),
-            "a name of more than 63 bytes at 3:14",
-        ),
-        (
-            LexError::TooLong,
-            5,
-            None,
-            "a source of more than 65536 bytes",
-        ),
-        (LexError::from(AllocError), 6, None, "out of memory"),
-    ];
-    for (error, number, place, text) in all {
-        tells(&rt, rt.alloc(), error, number, place, text)?;
+/// Whether a source's tokens stand at the places.
+fn has_places(alloc: Global, source: &[u8]) -> bool {
+    match tokens(alloc, source) {
+        Ok(tokens) => are_at_places(tokens.as_slice()),
+        Err(_) => false,
     }
-    Ok(())
+}
+
+#[test]
+fn places(rt: HostRuntime) {
+    let source = b"int\r\n  x/*\n\n*/= --1;\n";
+    expect_texts(&rt, rt.alloc(), source, b"int x = -- 1 ; ");
+    assert!(rt; has_places(rt.alloc(), source));
+}
+
+/// Whether so many blanks are no tokens.
+fn are_blank(alloc: Global, count: usize) -> bool {
+    match vec![in alloc; b' '; count] {
+        Ok(source) => has_texts(alloc, source.as_slice(), b""),
+        Err(_) => false,
+    }
+}
+
+/// How a source is refused that is the same byte so many times; 6 is want of memory.
+fn refusal_of_many(alloc: Global, b: u8, count: usize) -> Refusal {
+    match vec![in alloc; b; count] {
+        Ok(source) => refusal(alloc, source.as_slice()),
+        Err(_) => (6, 0, 0),
+    }
+}
+
+#[test]
+fn the_length_of_a_source(rt: HostRuntime) {
+    assert!(rt; are_blank(rt.alloc(), 65536));
+    assert!(rt; refusal_of_many(rt.alloc(), b' ', 65537) == (5, 0, 0));
+    assert!(rt; refusal_of_many(rt.alloc(), b'$', 65537) == (5, 0, 0));
+}
+
+fn tells(alloc: Global, error: LexError, number: u32, place: Option<Pos>, text: &[u8]) -> bool {
+    error.number() == number && error.pos() == place && is_shown(alloc, &error, text)
+}
+
+const PLACE: Pos = Pos { line: 3, col: 14 };
+
+static REFUSALS: [(LexError, u32, Option<Pos>, &[u8]); 5] = [
+    (
+        LexError::ForeignByte(PLACE),
+        1,
+        Some(PLACE),
+        b"a byte that begins no token at 3:14",
+    ),
+    (
+        LexError::BadConstant(PLACE),
+        2,
+        Some(PLACE),
+        b"no constant at 3:14",
+    ),
+    (
+        LexError::OpenComment(PLACE),
+        3,
+        Some(PLACE),
+        b"a comment without an end at 3:14",
+    ),
+    (
+        LexError::LongName(PLACE),
+        4,
+        Some(PLACE),
+        b"a name of more than 63 bytes at 3:14",
+    ),
+    (
+        LexError::TooLong,
+        5,
+        None,
+        b"a source of more than 65536 bytes",
+    ),
+];
+
+#[test]
+fn numbers_places_and_texts(rt: HostRuntime) {
+    for (error, number, place, text) in &REFUSALS {
+        expect(&rt, tells(rt.alloc(), *error, *number, *place, text), text);
+    }
+    let memory = LexError::from(AllocError);
+    assert!(rt; tells(rt.alloc(), memory, 6, None, b"out of memory"));
 }

@@ -2,6 +2,10 @@
 #![tactic(auto)]
 
 #[cfg(test)]
+mod answers;
+#[cfg(test)]
+mod building;
+#[cfg(test)]
 mod lexing;
 #[cfg(test)]
 mod nodes;

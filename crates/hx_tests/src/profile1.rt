@@ -1,5 +1,6 @@
 // A program of profile 1 that is made into one of today.
 
+use crate::building::{both, boxed, listed, listed_both};
 use hx_profile1::{from_profile1, p1};
 use hx_tree::token::Pos;
 use hx_tree::tree::{
@@ -7,8 +8,6 @@ use hx_tree::tree::{
     Program, Returns, Shape, Stmt,
 };
 use std::alloc::{AllocError, Global};
-use std::process::Abort;
-use std::test::Fail;
 
 fn at(col: u32) -> Pos {
     Pos { line: 1, col }
@@ -23,63 +22,105 @@ fn counter(alloc: Global, col: u32) -> Result<p1::Expr, AllocError> {
     Ok(p1::Expr::Variable(name(alloc, b"i", col)?))
 }
 
-// `int i=0;i<8;i++`
-fn clauses(alloc: Global) -> Result<p1::ForClauses, AllocError> {
-    let declared = p1::LocalDecl {
+fn binary(
+    alloc: Global,
+    operator: Operator,
+    col: u32,
+    left: Result<p1::Expr, AllocError>,
+    right: Result<p1::Expr, AllocError>,
+) -> Result<p1::Expr, AllocError> {
+    let (left, right) = both(boxed(alloc, left), boxed(alloc, right))?;
+    Ok(p1::Expr::Binary(BinaryOp::Strict(operator), at(col), left, right))
+}
+
+// `i=0`
+fn declared(alloc: Global) -> Result<p1::LocalDecl, AllocError> {
+    Ok(p1::LocalDecl {
         name: name(alloc, b"i", 32)?,
         init: Some(p1::Expr::Number(0)),
-    };
-    let below = p1::Expr::Binary(
-        BinaryOp::Strict(Operator::Less),
-        at(37),
-        Box::new(alloc, counter(alloc, 36)?)?,
-        Box::new(alloc, p1::Expr::Number(8))?,
-    );
-    let counted = p1::Place::Variable(name(alloc, b"i", 40)?);
-    Ok(p1::ForClauses {
-        init: p1::Init::Locals(vec![in alloc; declared]?),
-        test: Some(below),
-        step: Some(p1::Assignment::Increment(counted)),
     })
+}
+
+// `i<8`
+fn below(alloc: Global) -> Result<p1::Expr, AllocError> {
+    let limit = Ok(p1::Expr::Number(8));
+    binary(alloc, Operator::Less, 37, counter(alloc, 36), limit)
+}
+
+// `i++`
+fn counted(alloc: Global) -> Result<p1::Assignment, AllocError> {
+    let counter = p1::Place::Variable(name(alloc, b"i", 40)?);
+    Ok(p1::Assignment::Increment(counter))
+}
+
+// `int i=0;i<8;i++`
+fn clauses(alloc: Global) -> Result<p1::ForClauses, AllocError> {
+    let declared = listed(alloc, declared(alloc));
+    let (locals, (test, step)) = both(declared, both(below(alloc), counted(alloc)))?;
+    Ok(p1::ForClauses {
+        init: p1::Init::Locals(locals),
+        test: Some(test),
+        step: Some(step),
+    })
+}
+
+// `a[i]`
+fn element(alloc: Global) -> Result<p1::Place, AllocError> {
+    let (name, index) = both(name(alloc, b"a", 45), counter(alloc, 47))?;
+    Ok(p1::Place::Element(name, index))
 }
 
 // `a[i]=i*i;`
 fn squared(alloc: Global) -> Result<p1::Stmt, AllocError> {
-    let place = p1::Place::Element(name(alloc, b"a", 45)?, counter(alloc, 47)?);
-    let square = p1::Expr::Binary(
-        BinaryOp::Strict(Operator::Mul),
-        at(51),
-        Box::new(alloc, counter(alloc, 50)?)?,
-        Box::new(alloc, counter(alloc, 52)?)?,
-    );
+    let (left, right) = (counter(alloc, 50), counter(alloc, 52));
+    let square = binary(alloc, Operator::Mul, 51, left, right);
+    let (place, square) = both(element(alloc), square)?;
     Ok(p1::Stmt::Assign(p1::Assignment::Set(place, square)))
+}
+
+// `pfor(int i=0;i<8;i++) a[i]=i*i;`
+fn squaring(alloc: Global) -> Result<p1::Part, AllocError> {
+    let (clauses, body) = both(clauses(alloc), boxed(alloc, squared(alloc)))?;
+    Ok(p1::Part::Stmt(p1::Stmt::For(true, clauses, body)))
+}
+
+// `print(a[7]);`
+fn printing(alloc: Global) -> Result<p1::Part, AllocError> {
+    let last = boxed(alloc, Ok(p1::Expr::Number(7)));
+    let (name, last) = both(name(alloc, b"a", 61), last)?;
+    let printed = p1::Expr::Element(name, last);
+    Ok(p1::Part::Stmt(p1::Stmt::Print(at(55), printed)))
+}
+
+// `int main(){ pfor(int i=0;i<8;i++) a[i]=i*i; print(a[7]); }`
+fn main(alloc: Global) -> Result<p1::Item, AllocError> {
+    let parts = listed_both(alloc, squaring(alloc), printing(alloc));
+    let (name, body) = both(name(alloc, b"main", 15), parts)?;
+    Ok(p1::Item::Function(p1::Func {
+        returns: Returns::Int,
+        name,
+        params: Params::Nothing,
+        body,
+    }))
+}
+
+// `a[8]`
+fn array(alloc: Global) -> Result<GlobalDecl, AllocError> {
+    Ok(GlobalDecl {
+        name: name(alloc, b"a", 5)?,
+        shape: Shape::Array(8, Vec::new(alloc)),
+    })
+}
+
+// `int a[8];`
+fn globals(alloc: Global) -> Result<p1::Item, AllocError> {
+    Ok(p1::Item::Globals(listed(alloc, array(alloc))?))
 }
 
 // `int a[8]; int main(){ pfor(int i=0;i<8;i++) a[i]=i*i; print(a[7]); }`
 fn squares(alloc: Global) -> Result<p1::Program, AllocError> {
-    let words = GlobalDecl {
-        name: name(alloc, b"a", 5)?,
-        shape: Shape::Array(8, Vec::new(alloc)),
-    };
-    let body = Box::new(alloc, squared(alloc)?)?;
-    let last = Box::new(alloc, p1::Expr::Number(7))?;
-    let printed = p1::Expr::Element(name(alloc, b"a", 61)?, last);
-    let parts = vec![in alloc;
-        p1::Part::Stmt(p1::Stmt::For(true, clauses(alloc)?, body)),
-        p1::Part::Stmt(p1::Stmt::Print(at(55), printed)),
-    ]?;
-    let main = p1::Func {
-        returns: Returns::Int,
-        name: name(alloc, b"main", 15)?,
-        params: Params::Nothing,
-        body: parts,
-    };
-    Ok(p1::Program {
-        items: vec![in alloc;
-            p1::Item::Globals(vec![in alloc; words]?),
-            p1::Item::Function(main),
-        ]?,
-    })
+    let items = listed_both(alloc, globals(alloc), main(alloc))?;
+    Ok(p1::Program { items })
 }
 
 // `a[i]=i*i`
@@ -119,14 +160,18 @@ fn marks_of(program: &Program) -> Option<bool> {
     }
 }
 
-fn expect_squares(rt: &impl Abort, made: &Program) {
-    assert_eq!(rt; made.items.len(), 2);
-    assert_eq!(rt; marks_of(made), Some(true));
+fn made(alloc: Global) -> Result<Program, AllocError> {
+    from_profile1(alloc, squares(alloc)?)
+}
+
+fn is_made(program: &Result<Program, AllocError>) -> bool {
+    match program {
+        Ok(program) => program.items.len() == 2 && marks_of(program) == Some(true),
+        Err(_) => false,
+    }
 }
 
 #[test]
-fn makes_a_program_of_today(rt: HostRuntime) -> Result<(), Fail> {
-    let made = from_profile1(rt.alloc(), squares(rt.alloc())?)?;
-    expect_squares(&rt, &made);
-    Ok(())
+fn makes_a_program_of_today(rt: HostRuntime) {
+    assert!(rt; is_made(&made(rt.alloc())));
 }

@@ -1,114 +1,120 @@
 // Trees that no source spells, and the texts of the checker's refusals.
 
+use crate::answers::{expect, is_shown};
+use crate::building::{both, listed};
 use hx_check::check::check;
+use hx_check::checked::Checked;
 use hx_check::error::CheckError;
 use hx_tree::token::Pos;
 use hx_tree::tree::{Expr, Func, Item, Name, Params, Part, Program, Returns, Stmt};
 use std::alloc::{AllocError, Global};
-use std::process::Abort;
-use std::test::Fail;
 
 const POS: Pos = Pos { line: 1, col: 1 };
 
-// `int main(){ print(E); }` with 1 in so many pairs of parentheses as E.
-fn printing_in_parentheses(alloc: Global, pairs: usize) -> Result<Program, AllocError> {
-    let mut printed = Expr::Number(1);
+// 1 in so many pairs of parentheses.
+fn in_parentheses(alloc: Global, pairs: usize) -> Result<Expr, AllocError> {
+    let mut inner = Expr::Number(1);
     for _ in 0..pairs {
-        printed = Expr::Paren(Box::new(alloc, printed)?);
+        inner = Expr::Paren(Box::new(alloc, inner)?);
     }
-    let main = Item::Function(Func {
+    Ok(inner)
+}
+
+// `print(E);` with 1 in so many pairs of parentheses as E.
+fn printing(alloc: Global, pairs: usize) -> Result<Part, AllocError> {
+    let printed = in_parentheses(alloc, pairs)?;
+    Ok(Part::Stmt(Stmt::Print(POS, printed)))
+}
+
+// `int main(){ print(E); }` with such an E.
+fn main(alloc: Global, pairs: usize) -> Result<Item, AllocError> {
+    let parts = listed(alloc, printing(alloc, pairs));
+    let (text, body) = both(b"main".to_vec(alloc), parts)?;
+    Ok(Item::Function(Func {
         returns: Returns::Int,
-        name: Name {
-            text: b"main".to_vec(alloc)?,
-            pos: POS,
-        },
+        name: Name { text, pos: POS },
         params: Params::Nothing,
-        body: vec![in alloc; Part::Stmt(Stmt::Print(POS, printed))]?,
-    });
-    Ok(Program {
-        items: vec![in alloc; main]?,
-    })
+        body,
+    }))
+}
+
+fn checked(alloc: Global, pairs: usize) -> Result<Checked, CheckError> {
+    let items = listed(alloc, main(alloc, pairs))?;
+    check(alloc, Program { items })
+}
+
+fn is_taken(outcome: &Result<Checked, CheckError>) -> bool {
+    match outcome {
+        Ok(checked) => checked.program().main == 0 && checked.tree().items.len() == 1,
+        Err(_) => false,
+    }
+}
+
+fn is_too_large(outcome: &Result<Checked, CheckError>) -> bool {
+    match outcome {
+        Ok(_) => false,
+        Err(e) => *e == CheckError::TooLarge,
+    }
 }
 
 // A tree of height 200 is accepted, and one of 201 isn't.
 #[test]
-fn height(rt: HostRuntime) -> Result<(), Fail> {
-    let alloc = rt.alloc();
-    match check(alloc, printing_in_parentheses(alloc, 195)?) {
-        Ok(checked) => {
-            assert_eq!(rt; checked.program().main, 0);
-            assert_eq!(rt; checked.tree().items.len(), 1);
-        }
-        Err(e) => assert_eq!(rt; e.number(), 0),
-    }
-    match check(alloc, printing_in_parentheses(alloc, 196)?) {
-        Ok(_) => assert!(rt; false),
-        Err(e) => assert!(rt; e == CheckError::TooLarge),
-    }
-    Ok(())
+fn height(rt: HostRuntime) {
+    assert!(rt; is_taken(&checked(rt.alloc(), 195)));
+    assert!(rt; is_too_large(&checked(rt.alloc(), 196)));
 }
 
-fn tells(
-    rt: &impl Abort,
-    alloc: Global,
-    e: CheckError,
-    text: &str,
-    number: u32,
-    place: Option<Pos>,
-) -> Result<(), AllocError> {
-    let shown = e.to_string(alloc)?;
-    assert_eq!(rt; shown.as_str(), text);
-    assert_eq!(rt; e.number(), number);
-    assert_eq!(rt; e.pos(), place);
-    Ok(())
+fn tells(alloc: Global, e: CheckError, text: &[u8], number: u32, place: Option<Pos>) -> bool {
+    e.number() == number && e.pos() == place && is_shown(alloc, &e, text)
 }
+
+const PLACE: Pos = Pos { line: 3, col: 14 };
+
+static REFUSALS: [(CheckError, &[u8], u32, Option<Pos>); 9] = [
+    (
+        CheckError::UnknownName(PLACE),
+        b"refused 20 at 3:14",
+        20,
+        Some(PLACE),
+    ),
+    (
+        CheckError::DoubledName(PLACE),
+        b"refused 21 at 3:14",
+        21,
+        Some(PLACE),
+    ),
+    (
+        CheckError::WrongKind(PLACE),
+        b"refused 22 at 3:14",
+        22,
+        Some(PLACE),
+    ),
+    (
+        CheckError::WrongCount(PLACE),
+        b"refused 23 at 3:14",
+        23,
+        Some(PLACE),
+    ),
+    (
+        CheckError::OutsideLoop(PLACE),
+        b"refused 24 at 3:14",
+        24,
+        Some(PLACE),
+    ),
+    (CheckError::NoMain, b"refused 25", 25, None),
+    (
+        CheckError::LimitPassed(PLACE),
+        b"refused 26 at 3:14",
+        26,
+        Some(PLACE),
+    ),
+    (CheckError::TooLarge, b"refused 26", 26, None),
+    (CheckError::Memory, b"refused 27", 27, None),
+];
 
 #[test]
-fn tells_refusals(rt: HostRuntime) -> Result<(), Fail> {
-    let pos = Pos { line: 3, col: 14 };
-    let rows: [(CheckError, &str, u32, Option<Pos>); 9] = [
-        (
-            CheckError::UnknownName(pos),
-            "refused 20 at 3:14",
-            20,
-            Some(pos),
-        ),
-        (
-            CheckError::DoubledName(pos),
-            "refused 21 at 3:14",
-            21,
-            Some(pos),
-        ),
-        (
-            CheckError::WrongKind(pos),
-            "refused 22 at 3:14",
-            22,
-            Some(pos),
-        ),
-        (
-            CheckError::WrongCount(pos),
-            "refused 23 at 3:14",
-            23,
-            Some(pos),
-        ),
-        (
-            CheckError::OutsideLoop(pos),
-            "refused 24 at 3:14",
-            24,
-            Some(pos),
-        ),
-        (CheckError::NoMain, "refused 25", 25, None),
-        (
-            CheckError::LimitPassed(pos),
-            "refused 26 at 3:14",
-            26,
-            Some(pos),
-        ),
-        (CheckError::TooLarge, "refused 26", 26, None),
-        (CheckError::Memory, "refused 27", 27, None),
-    ];
-    for (e, text, number, place) in rows {
-        tells(&rt, rt.alloc(), e, text, number, place)?;
+fn tells_refusals(rt: HostRuntime) {
+    for (e, text, number, place) in &REFUSALS {
+        expect(&rt, tells(rt.alloc(), *e, text, *number, *place), text);
     }
-    Ok(())
 }

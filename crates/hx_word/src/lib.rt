@@ -11,6 +11,7 @@ mod passing;
 pub mod plain;
 pub mod region_run;
 pub mod room;
+mod seen;
 mod state;
 pub mod text;
 

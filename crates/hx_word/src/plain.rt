@@ -12,6 +12,7 @@ use crate::entry::{Entry, RegionEnd, entry_of};
 use crate::iterations::Iterations;
 use crate::opening::{opening_store, room_for};
 use crate::room::refill_entry;
+use crate::seen::Seen;
 use crate::state::State;
 use hx_exec::executable::Executable;
 use hx_exec::local::Local;
@@ -166,6 +167,7 @@ impl<'c> Plain<'c> {
             is_inside: false,
             iterations,
             end: None,
+            seen: Seen::new(),
         };
         Ok(Plain { code, state })
     }

@@ -1,0 +1,18 @@
+// What the tests of several stages ask of an answer.
+
+use std::alloc::Global;
+use std::fmt::Display;
+use std::process::Abort;
+
+/// Stops the test where this case is not as it is to be.
+pub fn expect(rt: &impl Abort, is_right: bool, case: &[u8]) {
+    assert!(rt; is_right, "{case:?}");
+}
+
+/// Whether this text is how a value is shown.
+pub fn is_shown(alloc: Global, value: &impl Display, text: &[u8]) -> bool {
+    match value.to_string(alloc) {
+        Ok(shown) => shown.as_bytes() == text,
+        Err(_) => false,
+    }
+}
