@@ -70,7 +70,10 @@ fn of_program(
 // The program that a source spells.
 fn read(alloc: Global, source: &[u8]) -> Result<Program, AllocError> {
     let all = tokens(alloc, source).map_err(|_| AllocError)?;
-    parse(alloc, all.as_slice()).map_err(|_| AllocError)
+    match parse(alloc, all.as_slice()) {
+        Ok(program) => Ok(program),
+        Err(_) => Err(AllocError),
+    }
 }
 
 fn sentence(

@@ -1,32 +1,25 @@
-// What trees are built with by hand: where a part is wanting, so is the whole.
+// What trees are built with by hand. Where memory is refused, the test stops: so no tree is dropped that is built in part.
 
-use std::alloc::{AllocError, Global};
+use std::alloc::Global;
+use std::process::Abort;
 
-pub fn both<T: Drop, U: Drop>(
-    first: Result<T, AllocError>,
-    second: Result<U, AllocError>,
-) -> Result<(T, U), AllocError> {
-    Ok((first?, second?))
+pub fn boxed<T>(rt: &(impl Abort + Alloc<A = Global>), value: T) -> Box<T> {
+    match Box::new(rt.alloc(), value) {
+        Ok(boxed) => boxed,
+        Err(_) => rt.panic("no memory for a box"),
+    }
 }
 
-pub fn boxed<T: Drop>(alloc: Global, value: Result<T, AllocError>) -> Result<Box<T>, AllocError> {
-    Ok(Box::new(alloc, value?)?)
+pub fn listed<T, const N: usize>(rt: &(impl Abort + Alloc<A = Global>), values: [T; N]) -> Vec<T> {
+    match Vec::from_array(rt.alloc(), values) {
+        Ok(list) => list,
+        Err(_) => rt.panic("no memory for a list"),
+    }
 }
 
-/// The list of one value.
-pub fn listed<T: Drop>(alloc: Global, value: Result<T, AllocError>) -> Result<Vec<T>, AllocError> {
-    let mut all = Vec::new(alloc);
-    all.push(value?)?;
-    Ok(all)
-}
-
-/// The list of two values.
-pub fn listed_both<T: Drop>(
-    alloc: Global,
-    first: Result<T, AllocError>,
-    second: Result<T, AllocError>,
-) -> Result<Vec<T>, AllocError> {
-    let mut all = listed(alloc, first)?;
-    all.push(second?)?;
-    Ok(all)
+pub fn copied(rt: &(impl Abort + Alloc<A = Global>), text: &[u8]) -> Vec<u8> {
+    match text.to_vec(rt.alloc()) {
+        Ok(copy) => copy,
+        Err(_) => rt.panic("no memory for a text"),
+    }
 }

@@ -1,40 +1,40 @@
 // Nodes that hold a list of nodes, faults and places.
 
 use crate::answers::is_shown;
-use crate::building::{listed, listed_both};
+use crate::building::listed;
 use hx_tree::make::{block, call};
 use hx_tree::outcome::FaultKind;
 use hx_tree::token::Pos;
 use hx_tree::tree::{Expr, Name, Part, Stmt};
-use std::alloc::{AllocError, Global};
+use std::alloc::Global;
+use std::process::Abort;
 
 // A call with two arguments, of a function without a name.
-fn call_of_two(alloc: Global) -> Result<Expr, AllocError> {
-    let arguments = listed_both(alloc, Ok(Expr::Number(7)), Ok(Expr::Number(8)))?;
+fn call_of_two(rt: &(impl Abort + Alloc<A = Global>)) -> Expr {
+    let arguments = listed(rt, [Expr::Number(7), Expr::Number(8)]);
     let name = Name {
-        text: Vec::new(alloc),
+        text: Vec::new(rt.alloc()),
         pos: Pos { line: 1, col: 3 },
     };
-    Ok(call(name, arguments))
+    call(name, arguments)
 }
 
 // How many arguments a call has.
-fn argument_count(made: &Result<Expr, AllocError>) -> usize {
+fn argument_count(made: &Expr) -> usize {
     match made {
-        Ok(Expr::Call(_, children)) => children.len(),
+        Expr::Call(_, children) => children.len(),
         _ => 0,
     }
 }
 
 #[test]
 fn calls_keep_their_arguments(rt: HostRuntime) {
-    assert!(rt; argument_count(&call_of_two(rt.alloc())) == 2);
+    assert!(rt; argument_count(&call_of_two(&rt)) == 2);
 }
 
-// A block of one part, as the only one of some parts.
-fn only_block(alloc: Global) -> Result<Vec<Part>, AllocError> {
-    let made = block(listed(alloc, Ok(Part::Stmt(Stmt::Empty)))?);
-    listed(alloc, Ok(Part::Stmt(made)))
+// A block of one part.
+fn block_of_one(rt: &(impl Abort + Alloc<A = Global>)) -> Stmt {
+    block(listed(rt, [Part::Stmt(Stmt::Empty)]))
 }
 
 // How many parts the block has that is the only one of some parts.
@@ -45,16 +45,10 @@ fn parts_within(parts: &[Part]) -> usize {
     }
 }
 
-fn parts_of_only_block(made: &Result<Vec<Part>, AllocError>) -> usize {
-    match made {
-        Ok(parts) => parts_within(parts.as_slice()),
-        Err(_) => 0,
-    }
-}
-
 #[test]
 fn blocks_keep_their_parts(rt: HostRuntime) {
-    assert!(rt; parts_of_only_block(&only_block(rt.alloc())) == 1);
+    let parts = listed(&rt, [Part::Stmt(block_of_one(&rt))]);
+    assert!(rt; parts_within(parts.as_slice()) == 1);
 }
 
 #[test]

@@ -1,6 +1,6 @@
 // A program of profile 1 that is made into one of today.
 
-use crate::building::{both, boxed, listed, listed_both};
+use crate::building::{boxed, copied, listed};
 use hx_profile1::{from_profile1, p1};
 use hx_tree::token::Pos;
 use hx_tree::tree::{
@@ -8,119 +8,104 @@ use hx_tree::tree::{
     Program, Returns, Shape, Stmt,
 };
 use std::alloc::{AllocError, Global};
+use std::process::Abort;
 
 fn at(col: u32) -> Pos {
     Pos { line: 1, col }
 }
 
-fn name(alloc: Global, text: &[u8], col: u32) -> Result<Name, AllocError> {
-    let text = Vec::from_slice(alloc, text)?;
-    Ok(Name { text, pos: at(col) })
+fn name(rt: &(impl Abort + Alloc<A = Global>), text: &[u8], col: u32) -> Name {
+    Name {
+        text: copied(rt, text),
+        pos: at(col),
+    }
 }
 
-fn counter(alloc: Global, col: u32) -> Result<p1::Expr, AllocError> {
-    Ok(p1::Expr::Variable(name(alloc, b"i", col)?))
-}
-
-fn binary(
-    alloc: Global,
-    operator: Operator,
-    col: u32,
-    left: Result<p1::Expr, AllocError>,
-    right: Result<p1::Expr, AllocError>,
-) -> Result<p1::Expr, AllocError> {
-    let (left, right) = both(boxed(alloc, left), boxed(alloc, right))?;
-    Ok(p1::Expr::Binary(BinaryOp::Strict(operator), at(col), left, right))
+fn counter(rt: &(impl Abort + Alloc<A = Global>), col: u32) -> p1::Expr {
+    p1::Expr::Variable(name(rt, b"i", col))
 }
 
 // `i=0`
-fn declared(alloc: Global) -> Result<p1::LocalDecl, AllocError> {
-    Ok(p1::LocalDecl {
-        name: name(alloc, b"i", 32)?,
+fn declared(rt: &(impl Abort + Alloc<A = Global>)) -> p1::LocalDecl {
+    p1::LocalDecl {
+        name: name(rt, b"i", 32),
         init: Some(p1::Expr::Number(0)),
-    })
+    }
 }
 
 // `i<8`
-fn below(alloc: Global) -> Result<p1::Expr, AllocError> {
-    let limit = Ok(p1::Expr::Number(8));
-    binary(alloc, Operator::Less, 37, counter(alloc, 36), limit)
-}
-
-// `i++`
-fn counted(alloc: Global) -> Result<p1::Assignment, AllocError> {
-    let counter = p1::Place::Variable(name(alloc, b"i", 40)?);
-    Ok(p1::Assignment::Increment(counter))
+fn below(rt: &(impl Abort + Alloc<A = Global>)) -> p1::Expr {
+    p1::Expr::Binary(
+        BinaryOp::Strict(Operator::Less),
+        at(37),
+        boxed(rt, counter(rt, 36)),
+        boxed(rt, p1::Expr::Number(8)),
+    )
 }
 
 // `int i=0;i<8;i++`
-fn clauses(alloc: Global) -> Result<p1::ForClauses, AllocError> {
-    let declared = listed(alloc, declared(alloc));
-    let (locals, (test, step)) = both(declared, both(below(alloc), counted(alloc)))?;
-    Ok(p1::ForClauses {
-        init: p1::Init::Locals(locals),
-        test: Some(test),
-        step: Some(step),
-    })
+fn clauses(rt: &(impl Abort + Alloc<A = Global>)) -> p1::ForClauses {
+    let counted = p1::Place::Variable(name(rt, b"i", 40));
+    p1::ForClauses {
+        init: p1::Init::Locals(listed(rt, [declared(rt)])),
+        test: Some(below(rt)),
+        step: Some(p1::Assignment::Increment(counted)),
+    }
 }
 
-// `a[i]`
-fn element(alloc: Global) -> Result<p1::Place, AllocError> {
-    let (name, index) = both(name(alloc, b"a", 45), counter(alloc, 47))?;
-    Ok(p1::Place::Element(name, index))
+// `i*i`
+fn square(rt: &(impl Abort + Alloc<A = Global>)) -> p1::Expr {
+    p1::Expr::Binary(
+        BinaryOp::Strict(Operator::Mul),
+        at(51),
+        boxed(rt, counter(rt, 50)),
+        boxed(rt, counter(rt, 52)),
+    )
 }
 
 // `a[i]=i*i;`
-fn squared(alloc: Global) -> Result<p1::Stmt, AllocError> {
-    let (left, right) = (counter(alloc, 50), counter(alloc, 52));
-    let square = binary(alloc, Operator::Mul, 51, left, right);
-    let (place, square) = both(element(alloc), square)?;
-    Ok(p1::Stmt::Assign(p1::Assignment::Set(place, square)))
+fn squared(rt: &(impl Abort + Alloc<A = Global>)) -> p1::Stmt {
+    let place = p1::Place::Element(name(rt, b"a", 45), counter(rt, 47));
+    p1::Stmt::Assign(p1::Assignment::Set(place, square(rt)))
 }
 
 // `pfor(int i=0;i<8;i++) a[i]=i*i;`
-fn squaring(alloc: Global) -> Result<p1::Part, AllocError> {
-    let (clauses, body) = both(clauses(alloc), boxed(alloc, squared(alloc)))?;
-    Ok(p1::Part::Stmt(p1::Stmt::For(true, clauses, body)))
+fn squaring(rt: &(impl Abort + Alloc<A = Global>)) -> p1::Part {
+    let body = boxed(rt, squared(rt));
+    p1::Part::Stmt(p1::Stmt::For(true, clauses(rt), body))
 }
 
 // `print(a[7]);`
-fn printing(alloc: Global) -> Result<p1::Part, AllocError> {
-    let last = boxed(alloc, Ok(p1::Expr::Number(7)));
-    let (name, last) = both(name(alloc, b"a", 61), last)?;
-    let printed = p1::Expr::Element(name, last);
-    Ok(p1::Part::Stmt(p1::Stmt::Print(at(55), printed)))
+fn printing(rt: &(impl Abort + Alloc<A = Global>)) -> p1::Part {
+    let last = boxed(rt, p1::Expr::Number(7));
+    let printed = p1::Expr::Element(name(rt, b"a", 61), last);
+    p1::Part::Stmt(p1::Stmt::Print(at(55), printed))
 }
 
 // `int main(){ pfor(int i=0;i<8;i++) a[i]=i*i; print(a[7]); }`
-fn main(alloc: Global) -> Result<p1::Item, AllocError> {
-    let parts = listed_both(alloc, squaring(alloc), printing(alloc));
-    let (name, body) = both(name(alloc, b"main", 15), parts)?;
-    Ok(p1::Item::Function(p1::Func {
+fn main(rt: &(impl Abort + Alloc<A = Global>)) -> p1::Func {
+    p1::Func {
         returns: Returns::Int,
-        name,
+        name: name(rt, b"main", 15),
         params: Params::Nothing,
-        body,
-    }))
-}
-
-// `a[8]`
-fn array(alloc: Global) -> Result<GlobalDecl, AllocError> {
-    Ok(GlobalDecl {
-        name: name(alloc, b"a", 5)?,
-        shape: Shape::Array(8, Vec::new(alloc)),
-    })
+        body: listed(rt, [squaring(rt), printing(rt)]),
+    }
 }
 
 // `int a[8];`
-fn globals(alloc: Global) -> Result<p1::Item, AllocError> {
-    Ok(p1::Item::Globals(listed(alloc, array(alloc))?))
+fn words(rt: &(impl Abort + Alloc<A = Global>)) -> p1::Item {
+    let array = GlobalDecl {
+        name: name(rt, b"a", 5),
+        shape: Shape::Array(8, Vec::new(rt.alloc())),
+    };
+    p1::Item::Globals(listed(rt, [array]))
 }
 
 // `int a[8]; int main(){ pfor(int i=0;i<8;i++) a[i]=i*i; print(a[7]); }`
-fn squares(alloc: Global) -> Result<p1::Program, AllocError> {
-    let items = listed_both(alloc, globals(alloc), main(alloc))?;
-    Ok(p1::Program { items })
+fn squares(rt: &(impl Abort + Alloc<A = Global>)) -> p1::Program {
+    p1::Program {
+        items: listed(rt, [words(rt), p1::Item::Function(main(rt))]),
+    }
 }
 
 // `a[i]=i*i`
@@ -160,18 +145,15 @@ fn marks_of(program: &Program) -> Option<bool> {
     }
 }
 
-fn made(alloc: Global) -> Result<Program, AllocError> {
-    from_profile1(alloc, squares(alloc)?)
-}
-
-fn is_made(program: &Result<Program, AllocError>) -> bool {
-    match program {
-        Ok(program) => program.items.len() == 2 && marks_of(program) == Some(true),
+fn is_made(outcome: &Result<Program, AllocError>) -> bool {
+    match outcome {
+        Ok(made) => made.items.len() == 2 && marks_of(made) == Some(true),
         Err(_) => false,
     }
 }
 
 #[test]
 fn makes_a_program_of_today(rt: HostRuntime) {
-    assert!(rt; is_made(&made(rt.alloc())));
+    let outcome = from_profile1(rt.alloc(), squares(&rt));
+    assert!(rt; is_made(&outcome));
 }

@@ -1,46 +1,43 @@
 // Trees that no source spells, and the texts of the checker's refusals.
 
 use crate::answers::{expect, is_shown};
-use crate::building::{both, listed};
+use crate::building::{boxed, copied, listed};
 use hx_check::check::check;
 use hx_check::checked::Checked;
 use hx_check::error::CheckError;
 use hx_tree::token::Pos;
 use hx_tree::tree::{Expr, Func, Item, Name, Params, Part, Program, Returns, Stmt};
-use std::alloc::{AllocError, Global};
+use std::alloc::Global;
+use std::process::Abort;
 
 const POS: Pos = Pos { line: 1, col: 1 };
 
 // 1 in so many pairs of parentheses.
-fn in_parentheses(alloc: Global, pairs: usize) -> Result<Expr, AllocError> {
+fn in_parentheses(rt: &(impl Abort + Alloc<A = Global>), pairs: usize) -> Expr {
     let mut inner = Expr::Number(1);
     for _ in 0..pairs {
-        inner = Expr::Paren(Box::new(alloc, inner)?);
+        inner = Expr::Paren(boxed(rt, inner));
     }
-    Ok(inner)
+    inner
 }
 
-// `print(E);` with 1 in so many pairs of parentheses as E.
-fn printing(alloc: Global, pairs: usize) -> Result<Part, AllocError> {
-    let printed = in_parentheses(alloc, pairs)?;
-    Ok(Part::Stmt(Stmt::Print(POS, printed)))
-}
-
-// `int main(){ print(E); }` with such an E.
-fn main(alloc: Global, pairs: usize) -> Result<Item, AllocError> {
-    let parts = listed(alloc, printing(alloc, pairs));
-    let (text, body) = both(b"main".to_vec(alloc), parts)?;
-    Ok(Item::Function(Func {
+// `int main(){ print(E); }` with 1 in so many pairs of parentheses as E.
+fn printing_in_parentheses(rt: &(impl Abort + Alloc<A = Global>), pairs: usize) -> Program {
+    let printed = Part::Stmt(Stmt::Print(POS, in_parentheses(rt, pairs)));
+    let text = copied(rt, b"main");
+    let main = Item::Function(Func {
         returns: Returns::Int,
         name: Name { text, pos: POS },
         params: Params::Nothing,
-        body,
-    }))
+        body: listed(rt, [printed]),
+    });
+    Program {
+        items: listed(rt, [main]),
+    }
 }
 
-fn checked(alloc: Global, pairs: usize) -> Result<Checked, CheckError> {
-    let items = listed(alloc, main(alloc, pairs))?;
-    check(alloc, Program { items })
+fn checked(rt: &(impl Abort + Alloc<A = Global>), pairs: usize) -> Result<Checked, CheckError> {
+    check(rt.alloc(), printing_in_parentheses(rt, pairs))
 }
 
 fn is_taken(outcome: &Result<Checked, CheckError>) -> bool {
@@ -60,8 +57,8 @@ fn is_too_large(outcome: &Result<Checked, CheckError>) -> bool {
 // A tree of height 200 is accepted, and one of 201 isn't.
 #[test]
 fn height(rt: HostRuntime) {
-    assert!(rt; is_taken(&checked(rt.alloc(), 195)));
-    assert!(rt; is_too_large(&checked(rt.alloc(), 196)));
+    assert!(rt; is_taken(&checked(&rt, 195)));
+    assert!(rt; is_too_large(&checked(&rt, 196)));
 }
 
 fn tells(alloc: Global, e: CheckError, text: &[u8], number: u32, place: Option<Pos>) -> bool {

@@ -49,7 +49,10 @@ impl Refused {
 pub(crate) fn checked(alloc: Global, source: &[u8]) -> Result<Checked, Refused> {
     let tokens = tokens(alloc, source).map_err(Refused::Lex)?;
     let program = parse(alloc, tokens.as_slice()).map_err(Refused::Parse)?;
-    check(alloc, program).map_err(Refused::Check)
+    match check(alloc, program) {
+        Ok(checked) => Ok(checked),
+        Err(error) => Err(Refused::Check(error)),
+    }
 }
 
 /// The code of a source.
