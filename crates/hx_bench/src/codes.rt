@@ -1,5 +1,6 @@
 // Four codes, each of which runs on and on.
 
+use hx_code::code::Code;
 use hx_code::table::{Func, Spot, Tables};
 use hx_code::validate::validate;
 use hx_code::word::{Array, Word};
@@ -141,14 +142,28 @@ const SUM_IN_GLOBALS: [Line; 16] = [
     (Word::Jump(0), 0),
 ];
 
-fn put(
-    words: &mut Vec<Word>,
-    spots: &mut Vec<Spot>,
-    lines: &[Line],
-    function: u32,
-) -> Result<(), AllocError> {
-    for (word, height) in lines {
-        words.push(*word)?;
+// The lines of a code's functions, main's first.
+fn lines_of(sketch: Sketch) -> [&'static [Line]; 2] {
+    match sketch {
+        Sketch::Locals => [&LOCALS, &[]],
+        Sketch::Arrays => [&ARRAYS, &[]],
+        Sketch::Calls => [&MAIN_OF_CALLS, &FIBONACCI],
+        Sketch::Globals => [&SUM_IN_GLOBALS, &[]],
+    }
+}
+
+fn words_of(alloc: Global, functions: &[&[Line]]) -> Result<Vec<Word>, AllocError> {
+    let mut words = Vec::new(alloc);
+    for lines in functions {
+        for (word, _) in *lines {
+            words.push(*word)?;
+        }
+    }
+    Ok(words)
+}
+
+fn put_spots(spots: &mut Vec<Spot>, lines: &[Line], function: u32) -> Result<(), AllocError> {
+    for (_, height) in lines {
         spots.push(Spot {
             function,
             region: None,
@@ -156,6 +171,14 @@ fn put(
         })?;
     }
     Ok(())
+}
+
+fn spots_of(alloc: Global, sketch: Sketch) -> Result<Vec<Spot>, AllocError> {
+    let [main, other] = lines_of(sketch);
+    let mut spots = Vec::new(alloc);
+    put_spots(&mut spots, main, 0)?;
+    put_spots(&mut spots, other, 1)?;
+    Ok(spots)
 }
 
 fn function(name: Vec<u8>, entry: u32, parameters: u32, privates: u32) -> Func {
@@ -167,34 +190,44 @@ fn function(name: Vec<u8>, entry: u32, parameters: u32, privates: u32) -> Func {
     }
 }
 
-/// The code with its instructions, or none where the validator refuses it, which it doesn't.
-pub(crate) fn code_of(alloc: Global, sketch: Sketch) -> Result<Option<Executable>, AllocError> {
-    let mut words = Vec::new(alloc);
-    let mut spots = Vec::new(alloc);
+fn functions_of(alloc: Global, sketch: Sketch) -> Result<Vec<Func>, AllocError> {
     let mut functions = Vec::new(alloc);
     functions.push(function(Vec::from_slice(alloc, b"main")?, 0, 0, 2))?;
-    match sketch {
-        Sketch::Locals => put(&mut words, &mut spots, &LOCALS, 0)?,
-        Sketch::Arrays => put(&mut words, &mut spots, &ARRAYS, 0)?,
-        Sketch::Globals => put(&mut words, &mut spots, &SUM_IN_GLOBALS, 0)?,
-        Sketch::Calls => {
-            put(&mut words, &mut spots, &MAIN_OF_CALLS, 0)?;
-            put(&mut words, &mut spots, &FIBONACCI, 1)?;
-            functions.push(function(Vec::from_slice(alloc, b"fib")?, 4, 1, 1))?;
-        }
+    if sketch == Sketch::Calls {
+        functions.push(function(Vec::from_slice(alloc, b"fib")?, 4, 1, 1))?;
     }
-    let tables = Tables {
-        spots,
-        functions,
+    Ok(functions)
+}
+
+fn tables_of(alloc: Global, sketch: Sketch) -> Result<Tables, AllocError> {
+    Ok(Tables {
+        spots: spots_of(alloc, sketch)?,
+        functions: functions_of(alloc, sketch)?,
         regions: Vec::new(alloc),
         globals: GLOBALS,
         opening: Vec::from_slice(alloc, &[0; 66])?,
         main: 0,
         input: None,
         input_length: None,
-    };
-    match validate(words, tables) {
-        Some(code) => Ok(Some(Executable::new(alloc, code)?)),
+    })
+}
+
+// The code, or none where the validator refuses it, which it doesn't.
+fn valid_code(alloc: Global, sketch: Sketch) -> Result<Option<Code>, AllocError> {
+    let words = words_of(alloc, &lines_of(sketch))?;
+    Ok(validate(words, tables_of(alloc, sketch)?))
+}
+
+/// The code with its instructions, where there is one; in a box it is let go by a call.
+pub(crate) fn code_of(
+    alloc: Global,
+    sketch: Sketch,
+) -> Result<Option<Box<Executable>>, AllocError> {
+    match valid_code(alloc, sketch)? {
+        Some(code) => {
+            let code = Executable::new(alloc, code)?;
+            Ok(Some(Box::new(alloc, code)?))
+        }
         None => Ok(None),
     }
 }

@@ -8,12 +8,13 @@ mod finding;
 
 use codes::{Sketch, code_of, sketch_named};
 use finding::{Way, count_found, way_named};
+use hx_exec::executable::Executable;
 use hx_word::plain::{Plain, Ran};
 use std::alloc::Global;
 use std::{env, io};
 
 // What came of a run.
-#[derive(Clone, Copy, PartialEq, Eq, Debug)]
+#[derive(Clone, Copy)]
 enum Came {
     Ended,
     More,
@@ -21,15 +22,19 @@ enum Came {
 }
 
 fn came_of(alloc: Global, sketch: Sketch, words: u64) -> Came {
-    let Ok(Some(code)) = code_of(alloc, sketch) else {
-        return Came::Refused;
-    };
-    let Ok(plain) = Plain::new(alloc, &code, &[]) else {
-        return Came::Refused;
-    };
-    match plain.run(words) {
-        Ran::Ended(_, _) => Came::Ended,
-        Ran::More(_) => Came::More,
+    match code_of(alloc, sketch) {
+        Ok(Some(code)) => came_of_code(alloc, &code, words),
+        _ => Came::Refused,
+    }
+}
+
+fn came_of_code(alloc: Global, code: &Executable, words: u64) -> Came {
+    match Plain::new(alloc, code, &[]) {
+        Ok(plain) => match plain.run(words) {
+            Ran::Ended(_, _) => Came::Ended,
+            Ran::More(_) => Came::More,
+        },
+        Err(_) => Came::Refused,
     }
 }
 

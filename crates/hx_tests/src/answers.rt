@@ -6,7 +6,7 @@ use std::process::Abort;
 
 /// Stops the test where this case is not as it is to be.
 pub fn expect(rt: &impl Abort, is_right: bool, case: &[u8]) {
-    assert!(rt; is_right, "{case:?}");
+    assert!(rt; is_right, "{}", case.escape_ascii());
 }
 
 /// Whether this text is how a value is shown.

@@ -1,6 +1,7 @@
 // Sources and their tokens, worked out by hand from the language's rules, and the texts of the lexer's refusals.
 
 use crate::answers::{expect, is_shown};
+use crate::building::{append, copied};
 use hx_lex::{LexError, Span, Token, tokens};
 use hx_tree::token::{Kind, Mark, Pos};
 use std::alloc::{AllocError, Global};
@@ -23,7 +24,10 @@ static KEYWORDS: [(&[u8], Mark); 14] = [
     (b"emit", Mark::Emit),
 ];
 
-static PUNCTUATORS: [(&[u8], Mark); 43] = [
+/// The text of a punctuator, and what it is.
+type Punctuator = (&'static [u8], Mark);
+
+static PUNCTUATORS: [Punctuator; 43] = [
     (b"(", Mark::OpenParen),
     (b")", Mark::CloseParen),
     (b"{", Mark::OpenBrace),
@@ -70,59 +74,59 @@ static PUNCTUATORS: [(&[u8], Mark); 43] = [
 ];
 
 /// Two punctuators with nothing between them that are read as others: the two, and what is read.
-static MERGED: [(&[u8], &[u8], &[u8]); 52] = [
-    (b"=", b"=", b"== "),
-    (b"=", b"==", b"== = "),
-    (b"+", b"=", b"+= "),
-    (b"+", b"==", b"+= = "),
-    (b"+", b"+", b"++ "),
-    (b"+", b"++", b"++ + "),
-    (b"+", b"+=", b"++ = "),
-    (b"-", b"=", b"-= "),
-    (b"-", b"==", b"-= = "),
-    (b"-", b"-", b"-- "),
-    (b"-", b"--", b"-- - "),
-    (b"-", b"-=", b"-- = "),
-    (b"*", b"=", b"*= "),
-    (b"*", b"==", b"*= = "),
-    (b"/", b"=", b"/= "),
-    (b"/", b"==", b"/= = "),
-    (b"/", b"/", b""),
-    (b"/", b"/=", b""),
-    (b"/", b"*", b"open comment"),
-    (b"/", b"*=", b"open comment"),
-    (b"%", b"=", b"%= "),
-    (b"%", b"==", b"%= = "),
-    (b"&", b"=", b"&= "),
-    (b"&", b"==", b"&= = "),
-    (b"&", b"&", b"&& "),
-    (b"&", b"&&", b"&& & "),
-    (b"&", b"&=", b"&& = "),
-    (b"|", b"=", b"|= "),
-    (b"|", b"==", b"|= = "),
-    (b"|", b"|", b"|| "),
-    (b"|", b"||", b"|| | "),
-    (b"|", b"|=", b"|| = "),
-    (b"^", b"=", b"^= "),
-    (b"^", b"==", b"^= = "),
-    (b"!", b"=", b"!= "),
-    (b"!", b"==", b"!= = "),
-    (b"<", b"=", b"<= "),
-    (b"<", b"==", b"<= = "),
-    (b"<", b"<", b"<< "),
-    (b"<", b"<<", b"<< < "),
-    (b"<", b"<=", b"<<= "),
-    (b"<", b"<<=", b"<< <= "),
-    (b">", b"=", b">= "),
-    (b">", b"==", b">= = "),
-    (b">", b">", b">> "),
-    (b">", b">>", b">> > "),
-    (b">", b">=", b">>= "),
-    (b">", b">>=", b">> >= "),
-    (b"<<", b"=", b"<<= "),
-    (b"<<", b"==", b"<<= = "),
-    (b">>", b"=", b">>= "),
-    (b">>", b"==", b">>= = "),
+static MERGED: [(Mark, Mark, &[u8]); 52] = [
+    (Mark::Assign, Mark::Assign, b"== "),
+    (Mark::Assign, Mark::Equal, b"== = "),
+    (Mark::Plus, Mark::Assign, b"+= "),
+    (Mark::Plus, Mark::Equal, b"+= = "),
+    (Mark::Plus, Mark::Plus, b"++ "),
+    (Mark::Plus, Mark::Increment, b"++ + "),
+    (Mark::Plus, Mark::PlusAssign, b"++ = "),
+    (Mark::Minus, Mark::Assign, b"-= "),
+    (Mark::Minus, Mark::Equal, b"-= = "),
+    (Mark::Minus, Mark::Minus, b"-- "),
+    (Mark::Minus, Mark::Decrement, b"-- - "),
+    (Mark::Minus, Mark::MinusAssign, b"-- = "),
+    (Mark::Times, Mark::Assign, b"*= "),
+    (Mark::Times, Mark::Equal, b"*= = "),
+    (Mark::Divide, Mark::Assign, b"/= "),
+    (Mark::Divide, Mark::Equal, b"/= = "),
+    (Mark::Divide, Mark::Divide, b""),
+    (Mark::Divide, Mark::DivideAssign, b""),
+    (Mark::Divide, Mark::Times, b"open comment"),
+    (Mark::Divide, Mark::TimesAssign, b"open comment"),
+    (Mark::Remainder, Mark::Assign, b"%= "),
+    (Mark::Remainder, Mark::Equal, b"%= = "),
+    (Mark::Ampersand, Mark::Assign, b"&= "),
+    (Mark::Ampersand, Mark::Equal, b"&= = "),
+    (Mark::Ampersand, Mark::Ampersand, b"&& "),
+    (Mark::Ampersand, Mark::AndAnd, b"&& & "),
+    (Mark::Ampersand, Mark::AmpersandAssign, b"&& = "),
+    (Mark::Bar, Mark::Assign, b"|= "),
+    (Mark::Bar, Mark::Equal, b"|= = "),
+    (Mark::Bar, Mark::Bar, b"|| "),
+    (Mark::Bar, Mark::BarBar, b"|| | "),
+    (Mark::Bar, Mark::BarAssign, b"|| = "),
+    (Mark::Caret, Mark::Assign, b"^= "),
+    (Mark::Caret, Mark::Equal, b"^= = "),
+    (Mark::Exclamation, Mark::Assign, b"!= "),
+    (Mark::Exclamation, Mark::Equal, b"!= = "),
+    (Mark::Less, Mark::Assign, b"<= "),
+    (Mark::Less, Mark::Equal, b"<= = "),
+    (Mark::Less, Mark::Less, b"<< "),
+    (Mark::Less, Mark::ShiftLeft, b"<< < "),
+    (Mark::Less, Mark::LessEqual, b"<<= "),
+    (Mark::Less, Mark::ShiftLeftAssign, b"<< <= "),
+    (Mark::Greater, Mark::Assign, b">= "),
+    (Mark::Greater, Mark::Equal, b">= = "),
+    (Mark::Greater, Mark::Greater, b">> "),
+    (Mark::Greater, Mark::ShiftRight, b">> > "),
+    (Mark::Greater, Mark::GreaterEqual, b">>= "),
+    (Mark::Greater, Mark::ShiftRightAssign, b">> >= "),
+    (Mark::ShiftLeft, Mark::Assign, b"<<= "),
+    (Mark::ShiftLeft, Mark::Equal, b"<<= = "),
+    (Mark::ShiftRight, Mark::Assign, b">>= "),
+    (Mark::ShiftRight, Mark::Equal, b">>= = "),
 ];
 
 /// Whether these are the texts of the tokens, with a blank behind each.
@@ -157,44 +161,36 @@ fn has_both(alloc: Global, source: &[u8], first: &[u8], second: &[u8]) -> bool {
     }
 }
 
-fn is_same(a: &[u8], b: &[u8]) -> bool {
-    a == b
-}
-
-fn merged(first: &[u8], second: &[u8]) -> Option<&'static [u8]> {
+fn merged(first: Mark, second: Mark) -> Option<&'static [u8]> {
     for entry in &MERGED {
-        if is_same(entry.0, first) && is_same(entry.1, second) {
+        if entry.0 == first && entry.1 == second {
             return Some(entry.2);
         }
     }
     None
 }
 
-fn joined(alloc: Global, first: &[u8], second: &[u8]) -> Result<Vec<u8>, AllocError> {
-    let mut source = first.to_vec(alloc)?;
-    source.extend_from_slice(second)?;
-    Ok(source)
-}
-
 /// Whether the source that two punctuators make is read as it is to be.
-fn is_right(alloc: Global, source: &[u8], first: &[u8], second: &[u8]) -> bool {
-    match merged(first, second) {
+fn is_right_pair(alloc: Global, source: &[u8], first: &Punctuator, second: &Punctuator) -> bool {
+    match merged(first.1, second.1) {
         Some(texts) => has_texts(alloc, source, texts),
-        None => has_both(alloc, source, first, second),
+        None => has_both(alloc, source, first.0, second.0),
     }
 }
 
-fn is_right_pair(alloc: Global, first: &[u8], second: &[u8]) -> bool {
-    match joined(alloc, first, second) {
-        Ok(source) => is_right(alloc, source.as_slice(), first, second),
-        Err(_) => false,
-    }
+fn expect_pair(rt: &(impl Abort + Alloc<A = Global>), first: &Punctuator, second: &Punctuator) {
+    let mut source = copied(rt, first.0);
+    append(rt, &mut source, second.0, 1);
+    let is_right = is_right_pair(rt.alloc(), source.as_slice(), first, second);
+    expect(rt, is_right, source.as_slice());
 }
 
-/// That a punctuator is read as it is to be before each of these, with nothing between them.
-fn expect_pairs(rt: &impl Abort, alloc: Global, first: &[u8], rows: &[(&[u8], Mark)]) {
-    for (second, _) in rows {
-        assert!(rt; is_right_pair(alloc, first, second), "{first:?} {second:?}");
+/// That each punctuator is read as it is to be before each other, with nothing between them.
+fn expect_pairs(rt: &(impl Abort + Alloc<A = Global>), all: &[Punctuator]) {
+    for first in all {
+        for second in all {
+            expect_pair(rt, first, second);
+        }
     }
 }
 
@@ -225,16 +221,16 @@ fn expect_refusals(rt: &impl Abort, alloc: Global, rows: &[(&[u8], Refusal)]) {
     }
 }
 
-/// Whether a token is the whole of a source, and of this kind.
-fn is_whole(token: &Token<'_>, source: &[u8], kind: Kind) -> bool {
-    let end = source.len();
-    token.kind == kind && token.text == source && is_at(token, Span { start: 0, end }, FIRST)
+/// Whether a token is of this kind, and stands from and up to these bytes, at this line and column.
+fn is_at(token: &Token<'_>, kind: Kind, span: (usize, usize), pos: (u32, u32)) -> bool {
+    let (start, end) = span;
+    let (line, col) = pos;
+    token.kind == kind && token.span == Span { start, end } && token.pos == Pos { line, col }
 }
 
-const FIRST: Pos = Pos { line: 1, col: 1 };
-
-fn is_at(token: &Token<'_>, span: Span, pos: Pos) -> bool {
-    token.span == span && token.pos == pos
+/// Whether a token is the whole of a source, and of this kind.
+fn is_whole(token: &Token<'_>, source: &[u8], kind: Kind) -> bool {
+    token.text == source && is_at(token, kind, (0, source.len()), (1, 1))
 }
 
 /// Whether a source is one token of this kind.
@@ -266,9 +262,7 @@ fn each_mark_alone(rt: HostRuntime) {
 
 #[test]
 fn each_mark_before_each_other(rt: HostRuntime) {
-    for (first, _) in &PUNCTUATORS {
-        expect_pairs(&rt, rt.alloc(), first, &PUNCTUATORS);
-    }
+    expect_pairs(&rt, &PUNCTUATORS);
 }
 
 static NAMES: [&[u8]; 8] = [
@@ -384,46 +378,18 @@ fn the_leftmost_fault(rt: HostRuntime) {
     expect_refusals(&rt, rt.alloc(), &LEFTMOST);
 }
 
-static PLACES: [(Kind, Span, Pos); 6] = [
-    (
-        Kind::Mark(Mark::Int),
-        Span { start: 0, end: 3 },
-        Pos { line: 1, col: 1 },
-    ),
-    (
-        Kind::Name,
-        Span { start: 7, end: 8 },
-        Pos { line: 2, col: 3 },
-    ),
-    (
-        Kind::Mark(Mark::Assign),
-        Span { start: 14, end: 15 },
-        Pos { line: 4, col: 3 },
-    ),
-    (
-        Kind::Mark(Mark::Decrement),
-        Span { start: 16, end: 18 },
-        Pos { line: 4, col: 5 },
-    ),
-    (
-        Kind::Number(1),
-        Span { start: 18, end: 19 },
-        Pos { line: 4, col: 7 },
-    ),
-    (
-        Kind::Mark(Mark::Semicolon),
-        Span { start: 19, end: 20 },
-        Pos { line: 4, col: 8 },
-    ),
-];
-
 fn are_at_places(tokens: &[Token<'_>]) -> bool {
-    for (token, (kind, span, pos)) in tokens.iter().zip(&PLACES) {
-        if token.kind != *kind || !is_at(token, *span, *pos) {
-            return false;
+    match tokens {
+        [int, name, assign, decrement, number, semicolon] => {
+            is_at(int, Kind::Mark(Mark::Int), (0, 3), (1, 1))
+                && is_at(name, Kind::Name, (7, 8), (2, 3))
+                && is_at(assign, Kind::Mark(Mark::Assign), (14, 15), (4, 3))
+                && is_at(decrement, Kind::Mark(Mark::Decrement), (16, 18), (4, 5))
+                && is_at(number, Kind::Number(1), (18, 19), (4, 7))
+                && is_at(semicolon, Kind::Mark(Mark::Semicolon), (19, 20), (4, 8))
         }
+        _ => false,
     }
-    true
 }
 
 /// Whether a source's tokens stand at the places.
@@ -438,7 +404,7 @@ fn has_places(alloc: Global, source: &[u8]) -> bool {
 fn places(rt: HostRuntime) {
     let source = b"int\r\n  x/*\n\n*/= --1;\n";
     expect_texts(&rt, rt.alloc(), source, b"int x = -- 1 ; ");
-    assert!(rt; has_places(rt.alloc(), source));
+    expect(&rt, has_places(rt.alloc(), source), source);
 }
 
 /// Whether so many blanks are no tokens.
@@ -459,9 +425,18 @@ fn refusal_of_many(alloc: Global, b: u8, count: usize) -> Refusal {
 
 #[test]
 fn the_length_of_a_source(rt: HostRuntime) {
-    assert!(rt; are_blank(rt.alloc(), 65536));
-    assert!(rt; refusal_of_many(rt.alloc(), b' ', 65537) == (5, 0, 0));
-    assert!(rt; refusal_of_many(rt.alloc(), b'$', 65537) == (5, 0, 0));
+    let alloc = rt.alloc();
+    expect(&rt, are_blank(alloc, 65536), b"65536 blanks");
+    expect(
+        &rt,
+        refusal_of_many(alloc, b' ', 65537) == (5, 0, 0),
+        b"65537 blanks",
+    );
+    expect(
+        &rt,
+        refusal_of_many(alloc, b'$', 65537) == (5, 0, 0),
+        b"65537 dollars",
+    );
 }
 
 fn tells(alloc: Global, error: LexError, number: u32, place: Option<Pos>, text: &[u8]) -> bool {
@@ -509,5 +484,6 @@ fn numbers_places_and_texts(rt: HostRuntime) {
         expect(&rt, tells(rt.alloc(), *error, *number, *place, text), text);
     }
     let memory = LexError::from(AllocError);
-    assert!(rt; tells(rt.alloc(), memory, 6, None, b"out of memory"));
+    let text = b"out of memory";
+    expect(&rt, tells(rt.alloc(), memory, 6, None, text), text);
 }

@@ -1,4 +1,5 @@
-//! The tests of the stages from source to tree: each file is named like the stage that it tests.
+//! The tests of the stages from source to tree: each file is named like the stage that it tests. `answers` and `building` have
+//! what several of them need.
 #![tactic(auto)]
 
 #[cfg(test)]

@@ -1,6 +1,6 @@
 // Nodes that hold a list of nodes, faults and places.
 
-use crate::answers::is_shown;
+use crate::answers::{expect, is_shown};
 use crate::building::listed;
 use hx_tree::make::{block, call};
 use hx_tree::outcome::FaultKind;
@@ -29,7 +29,8 @@ fn argument_count(made: &Expr) -> usize {
 
 #[test]
 fn calls_keep_their_arguments(rt: HostRuntime) {
-    assert!(rt; argument_count(&call_of_two(&rt)) == 2);
+    let made = call_of_two(&rt);
+    expect(&rt, argument_count(&made) == 2, b"a call of two");
 }
 
 // A block of one part.
@@ -37,10 +38,18 @@ fn block_of_one(rt: &(impl Abort + Alloc<A = Global>)) -> Stmt {
     block(listed(rt, [Part::Stmt(Stmt::Empty)]))
 }
 
+// How many parts a block has.
+fn part_count(stmt: &Stmt) -> usize {
+    match stmt {
+        Stmt::Block(children) => children.len(),
+        _ => 0,
+    }
+}
+
 // How many parts the block has that is the only one of some parts.
 fn parts_within(parts: &[Part]) -> usize {
-    match parts.first() {
-        Some(Part::Stmt(Stmt::Block(children))) => children.len(),
+    match parts {
+        [Part::Stmt(stmt)] => part_count(stmt),
         _ => 0,
     }
 }
@@ -48,14 +57,15 @@ fn parts_within(parts: &[Part]) -> usize {
 #[test]
 fn blocks_keep_their_parts(rt: HostRuntime) {
     let parts = listed(&rt, [Part::Stmt(block_of_one(&rt))]);
-    assert!(rt; parts_within(parts.as_slice()) == 1);
+    expect(&rt, parts_within(parts.as_slice()) == 1, b"a block of one");
 }
 
 #[test]
 fn faults_and_places_are_shown(rt: HostRuntime) {
-    assert!(rt; FaultKind::ZeroDivisor.number() == 1);
-    assert!(rt; FaultKind::IndexOutOfRange.number() == 2);
-    assert!(rt; FaultKind::CallTooDeep.number() == 3);
-    assert!(rt; FaultKind::TextFull.number() == 4);
-    assert!(rt; is_shown(rt.alloc(), &Pos { line: 3, col: 17 }, b"3:17"));
+    expect(&rt, FaultKind::ZeroDivisor.number() == 1, b"1");
+    expect(&rt, FaultKind::IndexOutOfRange.number() == 2, b"2");
+    expect(&rt, FaultKind::CallTooDeep.number() == 3, b"3");
+    expect(&rt, FaultKind::TextFull.number() == 4, b"4");
+    let pos = Pos { line: 3, col: 17 };
+    expect(&rt, is_shown(rt.alloc(), &pos, b"3:17"), b"3:17");
 }

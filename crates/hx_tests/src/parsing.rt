@@ -1,13 +1,13 @@
 // What no clause says: the places of refusals, that memory suffices, and which tree a text is.
 
 use crate::answers::{expect, is_shown};
+use crate::building::{append, copied};
 use hx_lex::{Token, tokens};
 use hx_parse::{ParseError, parse};
 use hx_tree::token::Pos;
 use hx_tree::tree::{Item, Part, Program, Stmt};
 use std::alloc::{AllocError, Global};
 use std::process::Abort;
-use std::test::Fail;
 
 /// The number of a refusal, and the line and column of its place; zeros for what is not there.
 type Answer = (u32, u32, u32);
@@ -42,34 +42,26 @@ fn answer(alloc: Global, source: &[u8]) -> Answer {
 /// Texts in one another: one, another so many times, a third, a fourth as many times, and a fifth.
 type Nest = [&'static [u8]; 5];
 
-fn repeat(all: &mut Vec<u8>, text: &[u8], count: usize) -> Result<(), AllocError> {
-    for _ in 0..count {
-        all.extend_from_slice(text)?;
-    }
-    Ok(())
-}
-
-fn nested(alloc: Global, nest: &Nest, count: usize) -> Result<Vec<u8>, AllocError> {
+fn nested(rt: &(impl Abort + Alloc<A = Global>), nest: &Nest, count: usize) -> Vec<u8> {
     let [before, opened, middle, closed, behind] = nest;
-    let mut all = before.to_vec(alloc)?;
-    repeat(&mut all, opened, count)?;
-    all.extend_from_slice(middle)?;
-    repeat(&mut all, closed, count)?;
-    all.extend_from_slice(behind)?;
-    Ok(all)
+    let mut all = copied(rt, before);
+    append(rt, &mut all, opened, count);
+    append(rt, &mut all, middle, 1);
+    append(rt, &mut all, closed, count);
+    append(rt, &mut all, behind, 1);
+    all
 }
 
-/// Whether texts that stand so many times in one another are answered so.
-fn is_answered(alloc: Global, nest: &Nest, count: usize, wanted: Answer) -> bool {
-    match nested(alloc, nest, count) {
-        Ok(source) => answer(alloc, source.as_slice()) == wanted,
-        Err(_) => false,
-    }
+/// That texts which stand so many times in one another are answered so.
+fn expect_answer(rt: &(impl Abort + Alloc<A = Global>), nest: &Nest, count: usize, wanted: Answer) {
+    let source = nested(rt, nest, count);
+    let is_right = answer(rt.alloc(), source.as_slice()) == wanted;
+    assert!(rt; is_right, "{count} times {}", nest[1].escape_ascii());
 }
 
-fn expect_answers(rt: &impl Abort, alloc: Global, rows: &[(Nest, usize, Answer)]) {
+fn expect_answers(rt: &(impl Abort + Alloc<A = Global>), rows: &[(Nest, usize, Answer)]) {
     for (nest, count, wanted) in rows {
-        expect(rt, is_answered(alloc, nest, *count, *wanted), nest[0]);
+        expect_answer(rt, nest, *count, *wanted);
     }
 }
 
@@ -202,13 +194,18 @@ fn count_programs(rt: &impl Abort, alloc: Global, all: &[Token<'_>]) -> u32 {
     count
 }
 
+/// That of the fronts of these tokens three are programs: nothing, the globals, and these with p.
+fn expect_fronts(rt: &(impl Abort + Alloc<A = Global>), all: &[Token<'_>]) {
+    expect(rt, parsed(rt.alloc(), all) == TAKEN, b"the whole");
+    expect(rt, count_programs(rt, rt.alloc(), all) == 3, b"the fronts");
+}
+
 #[test]
-fn fronts_end_too_soon(rt: HostRuntime) -> Result<(), Fail> {
-    let all = tokens(rt.alloc(), EACH)?;
-    assert!(rt; parsed(rt.alloc(), all.as_slice()) == TAKEN);
-    let count = count_programs(&rt, rt.alloc(), all.as_slice());
-    assert!(rt; count == 3, "nothing, the globals, and these with p");
-    Ok(())
+fn fronts_end_too_soon(rt: HostRuntime) {
+    match tokens(rt.alloc(), EACH) {
+        Ok(all) => expect_fronts(&rt, all.as_slice()),
+        Err(_) => expect(&rt, false, EACH),
+    }
 }
 
 /// Whether a statement is an `if` with an `else`.
@@ -227,94 +224,89 @@ fn loops_over_else(stmt: &Stmt) -> bool {
     }
 }
 
-/// Whether an item is a function whose body is an `if` without an `else` before such a loop.
-fn has_else_within(item: &Item) -> bool {
-    match item {
-        Item::Function(main) => match main.body.as_slice() {
-            [Part::Stmt(Stmt::If(_, body))] => loops_over_else(body),
-            _ => false,
-        },
+/// Whether the parts of a body are one `if` without an `else` before such a loop.
+fn are_else_within(parts: &[Part]) -> bool {
+    match parts {
+        [Part::Stmt(Stmt::If(_, body))] => loops_over_else(body),
         _ => false,
     }
 }
 
-/// Whether tokens are read as one item, which is such a function.
-fn is_else_within(outcome: &Result<Program, ParseError>) -> bool {
-    match outcome {
-        Ok(program) => match program.items.as_slice() {
-            [item] => has_else_within(item),
-            _ => false,
-        },
+/// Whether an item is a function with such a body.
+fn has_else_within(item: &Item) -> bool {
+    match item {
+        Item::Function(main) => are_else_within(main.body.as_slice()),
+        Item::Globals(_) => false,
+    }
+}
+
+/// Whether a program is one such function.
+fn is_else_within(program: &Program) -> bool {
+    match program.items.as_slice() {
+        [item] => has_else_within(item),
+        _ => false,
+    }
+}
+
+/// Whether tokens are read as such a program.
+fn reads_else_within(alloc: Global, tokens: &[Token<'_>]) -> bool {
+    match parse(alloc, tokens) {
+        Ok(program) => is_else_within(&program),
         Err(_) => false,
     }
 }
 
 #[test]
-fn an_else_goes_to_the_nearest_if(rt: HostRuntime) -> Result<(), Fail> {
+fn an_else_goes_to_the_nearest_if(rt: HostRuntime) {
     let source = b"int main(){ if (1) while (2) if (3) ; else ; }";
-    let all = tokens(rt.alloc(), source)?;
-    let outcome = parse(rt.alloc(), all.as_slice());
-    assert!(rt; is_else_within(&outcome));
-    Ok(())
+    match tokens(rt.alloc(), source) {
+        Ok(all) => expect(&rt, reads_else_within(rt.alloc(), all.as_slice()), source),
+        Err(_) => expect(&rt, false, source),
+    }
 }
+
+/// `int main(){ print(E); }`, where E is 1 in pairs of parentheses.
+const PARENTHESES: Nest = [b"int main(){ print(", b"(", b"1", b")", b"); }"];
+
+const SUM: Nest = [b"int main(){ print(1", b"+1", b"", b"", b"); }"];
+
+/// A function whose body has blocks, each in the one before.
+const BLOCKS: Nest = [b"int main(){ ", b"{", b"", b"}", b" }"];
+
+const LIST: Nest = [b"int main(){ f(1", b", 1", b"", b"", b"); }"];
 
 static HEIGHTS: [(Nest, usize, Answer); 7] = [
     // The program, the function, its body and the statement stand above the expression, which has a node for each pair and one.
-    (
-        [b"int main(){ print(", b"(", b"1", b")", b"); }"],
-        195,
-        TAKEN,
-    ),
-    (
-        [b"int main(){ print(", b"(", b"1", b")", b"); }"],
-        196,
-        TOO_DEEP,
-    ),
+    (PARENTHESES, 195, TAKEN),
+    (PARENTHESES, 196, TOO_DEEP),
     // A sum of so many numbers has a node for each.
-    (
-        [b"int main(){ print(1", b"+1", b"", b"", b"); }"],
-        195,
-        TAKEN,
-    ),
-    (
-        [b"int main(){ print(1", b"+1", b"", b"", b"); }"],
-        196,
-        TOO_DEEP,
-    ),
+    (SUM, 195, TAKEN),
+    (SUM, 196, TOO_DEEP),
     // Blocks in the body of a function, which has height 3 with the function and the program.
-    ([b"int main(){ ", b"{", b"", b"}", b" }"], 197, TAKEN),
-    ([b"int main(){ ", b"{", b"", b"}", b" }"], 198, TOO_DEEP),
+    (BLOCKS, 197, TAKEN),
+    (BLOCKS, 198, TOO_DEEP),
     // A list is no higher than its highest member.
-    ([b"int main(){ f(1", b", 1", b"", b"", b"); }"], 1000, TAKEN),
+    (LIST, 1000, TAKEN),
 ];
 
 #[test]
 fn the_height_has_a_limit(rt: HostRuntime) {
-    expect_answers(&rt, rt.alloc(), &HEIGHTS);
+    expect_answers(&rt, &HEIGHTS);
 }
 
-// Each choice stands in the last part of the one before. The last of these sources has 65,536 bytes.
+/// Each choice stands in the last part of the one before.
+const NESTED_CHOICES: Nest = [b"int main(){ print(", b"1?1:", b"", b"", b"1);  }"];
+
+// The last of these sources has 65,536 bytes.
 static CHOICES: [(Nest, usize, Answer); 3] = [
-    (
-        [b"int main(){ print(", b"1?1:", b"1", b"", b");  }"],
-        195,
-        TAKEN,
-    ),
-    (
-        [b"int main(){ print(", b"1?1:", b"1", b"", b");  }"],
-        196,
-        TOO_DEEP,
-    ),
-    (
-        [b"int main(){ print(", b"1?1:", b"1", b"", b");  }"],
-        16378,
-        TOO_DEEP,
-    ),
+    (NESTED_CHOICES, 195, TAKEN),
+    (NESTED_CHOICES, 196, TOO_DEEP),
+    (NESTED_CHOICES, 16378, TOO_DEEP),
 ];
 
 #[test]
 fn choices_go_to_the_height_limit(rt: HostRuntime) {
-    expect_answers(&rt, rt.alloc(), &CHOICES);
+    expect_answers(&rt, &CHOICES);
 }
 
 // 197 blocks could still end here; with one more they could not, and a fault behind them may be told or not.
@@ -330,7 +322,7 @@ static HIGHEST_FAULTS: [(Nest, usize, Answer); 3] = [
 
 #[test]
 fn a_fault_behind_the_highest_tree_is_one_of_syntax(rt: HostRuntime) {
-    expect_answers(&rt, rt.alloc(), &HIGHEST_FAULTS);
+    expect_answers(&rt, &HIGHEST_FAULTS);
 }
 
 static DEEP: [(Nest, usize, Answer); 4] = [
@@ -350,7 +342,7 @@ static DEEP: [(Nest, usize, Answer); 4] = [
 
 #[test]
 fn deep_sources_end_in_a_refusal(rt: HostRuntime) {
-    expect_answers(&rt, rt.alloc(), &DEEP);
+    expect_answers(&rt, &DEEP);
 }
 
 fn tells(alloc: Global, refusal: ParseError, number: u32, place: Option<Pos>, text: &[u8]) -> bool {
@@ -384,5 +376,6 @@ fn refusals_have_numbers_and_texts(rt: HostRuntime) {
         );
     }
     let memory = ParseError::from(AllocError);
-    assert!(rt; tells(rt.alloc(), memory, 12, None, b"out of memory"));
+    let text = b"out of memory";
+    expect(&rt, tells(rt.alloc(), memory, 12, None, text), text);
 }

@@ -1,5 +1,6 @@
 // A program of profile 1 that is made into one of today.
 
+use crate::answers::expect;
 use crate::building::{boxed, copied, listed};
 use hx_profile1::{from_profile1, p1};
 use hx_tree::token::Pos;
@@ -7,7 +8,7 @@ use hx_tree::tree::{
     Assignment, BinaryOp, Expr, Func, GlobalDecl, Item, Name, Operator, Params, Part, Place,
     Program, Returns, Shape, Stmt,
 };
-use std::alloc::{AllocError, Global};
+use std::alloc::Global;
 use std::process::Abort;
 
 fn at(col: u32) -> Pos {
@@ -145,15 +146,19 @@ fn marks_of(program: &Program) -> Option<bool> {
     }
 }
 
-fn is_made(outcome: &Result<Program, AllocError>) -> bool {
-    match outcome {
-        Ok(made) => made.items.len() == 2 && marks_of(made) == Some(true),
+fn is_made(program: &Program) -> bool {
+    program.items.len() == 2 && marks_of(program) == Some(true)
+}
+
+// Whether the program is made into one of today.
+fn makes_squares(rt: &(impl Abort + Alloc<A = Global>)) -> bool {
+    match from_profile1(rt.alloc(), squares(rt)) {
+        Ok(made) => is_made(&made),
         Err(_) => false,
     }
 }
 
 #[test]
 fn makes_a_program_of_today(rt: HostRuntime) {
-    let outcome = from_profile1(rt.alloc(), squares(&rt));
-    assert!(rt; is_made(&outcome));
+    expect(&rt, makes_squares(&rt), b"squares");
 }

@@ -36,29 +36,25 @@ fn printing_in_parentheses(rt: &(impl Abort + Alloc<A = Global>), pairs: usize) 
     }
 }
 
-fn checked(rt: &(impl Abort + Alloc<A = Global>), pairs: usize) -> Result<Checked, CheckError> {
-    check(rt.alloc(), printing_in_parentheses(rt, pairs))
+// Whether an accepted program is still one `main`.
+fn is_main_alone(checked: &Checked) -> bool {
+    checked.program().main == 0 && checked.tree().items.len() == 1
 }
 
-fn is_taken(outcome: &Result<Checked, CheckError>) -> bool {
-    match outcome {
-        Ok(checked) => checked.program().main == 0 && checked.tree().items.len() == 1,
-        Err(_) => false,
-    }
-}
-
-fn is_too_large(outcome: &Result<Checked, CheckError>) -> bool {
-    match outcome {
-        Ok(_) => false,
-        Err(e) => *e == CheckError::TooLarge,
+// Whether so many pairs are accepted as what they are, or why they are refused.
+fn verdict(rt: &(impl Abort + Alloc<A = Global>), pairs: usize) -> Result<bool, CheckError> {
+    match check(rt.alloc(), printing_in_parentheses(rt, pairs)) {
+        Ok(checked) => Ok(is_main_alone(&checked)),
+        Err(e) => Err(e),
     }
 }
 
 // A tree of height 200 is accepted, and one of 201 isn't.
 #[test]
 fn height(rt: HostRuntime) {
-    assert!(rt; is_taken(&checked(&rt, 195)));
-    assert!(rt; is_too_large(&checked(&rt, 196)));
+    expect(&rt, verdict(&rt, 195) == Ok(true), b"195 pairs");
+    let refused = Err(CheckError::TooLarge);
+    expect(&rt, verdict(&rt, 196) == refused, b"196 pairs");
 }
 
 fn tells(alloc: Global, e: CheckError, text: &[u8], number: u32, place: Option<Pos>) -> bool {
