@@ -45,6 +45,7 @@ pub(crate) struct Plan<'a> {
     pub(crate) functions: &'a [Function],
     pub(crate) main: u32,
     pub(crate) region: Option<Marked<'a>>,
+    pub(crate) globals: u32,
     pub(crate) opening: &'a [i32],
 }
 
@@ -141,7 +142,7 @@ fn tables_of(alloc: Global, plan: &Plan<'_>) -> Result<Tables, AllocError> {
         spots: spots_of(alloc, plan)?,
         functions: functions_of(alloc, plan.functions)?,
         regions: regions_of(alloc, plan.region)?,
-        globals: plan.opening.len() as u32,
+        globals: plan.globals,
         opening: Vec::from_slice(alloc, plan.opening)?,
         main: plan.main,
         input: None,

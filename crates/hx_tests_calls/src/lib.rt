@@ -8,6 +8,8 @@ mod calls;
 #[cfg(test)]
 mod cells;
 #[cfg(test)]
+mod codes;
+#[cfg(test)]
 mod loops;
 #[cfg(test)]
 mod regions;

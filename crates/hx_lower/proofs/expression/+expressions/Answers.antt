@@ -1,4 +1,5 @@
-use Rattle.std.proofs.Common.{rules, ◌≡◌, map, ap, ◌∙◌, length}
+use Rattle.std.proofs.lemmas.Grind.{common_steps}
+use Rattle.std.proofs.Common.{arith, rules, ◌≡◌, map, ap, ◌∙◌, length}
 use Rattle.hx_resolved.specs.Resolved as resolved
 use Rattle.hx_resolved.specs.Views.{resolved_expr}
 use Rattle.hx_lowering.specs.Lines.{count}
@@ -13,3 +14,6 @@ put_expr-returns-in-Call-clause-words t c =
     ap resolved_expr c.in-Call.is ∙ call_is c.in-Call.function c.in-Call.at c.in-Call.arguments in
     let many : count (resolved.exprs es) ≡ length c.in-Call.arguments.items = count_is c.in-Call.arguments.items in
     rw all (search rules)
+
+pub put_exprs-loop-e-preserved : goal.put_exprs-loop-e-preserved
+put_exprs-loop-e-preserved t c = grind (arith, common_steps)
