@@ -1,5 +1,6 @@
 // Whole executions over devices in memory, each of whose calls fails in turn.
 
+use crate::answers::expect;
 use hx_device::{MemorySink, MemorySource};
 use hx_run::{Done, Mode, Refusal, Tail, Unwatched, execute, execute_plain};
 use hx_tree::outcome::{End, Settings};
@@ -8,6 +9,9 @@ use std::process::Abort;
 use std::sync::Wait;
 use std::thread::Threads;
 
+/// More calls than an execution makes of a device.
+pub const NEVER: u64 = u64::MAX;
+
 // The second turn divides by what the first one has stored.
 const DIVIDES: &[u8] =
     b"int d; int main(){ pfor(int i=0;i<2;i++){ if(i==0) d=2; else print(10/d); } }";
@@ -15,7 +19,8 @@ const DIVIDES: &[u8] =
 const REPORT: &[u8] =
     b"5\nend normal 0\nregions 1\nturns 2\nrepeats 0\nviolations 0\nrestarts 0\nholds 0\nabandons 0\ndiscarded 0\nspared 0\n";
 
-const NEVER: u64 = 1000;
+const REPORT_AND_GLOBALS: &[u8] =
+    b"5\nend normal 0\nregions 1\nturns 2\nrepeats 0\nviolations 0\nrestarts 0\nholds 0\nabandons 0\ndiscarded 0\nspared 0\nd 2\n";
 
 // What may stand behind the text.
 const NOTHING: Tail = Tail {
@@ -23,7 +28,7 @@ const NOTHING: Tail = Tail {
     globals: false,
 };
 
-const STATS: Tail = Tail {
+pub const STATS: Tail = Tail {
     stats: true,
     globals: false,
 };
@@ -38,38 +43,49 @@ const BOTH: Tail = Tail {
     globals: true,
 };
 
-const WELL: Result<Done, Refusal> = Ok(Done::Finished(End::Normal(0)));
+/// What an execution answers.
+pub type Answer = Result<Done, Refusal>;
 
-// When devices fail, counted in calls of each.
+const WELL: Answer = Ok(Done::Finished(End::Normal(0)));
+
+/// How a source is executed, by how many workers, how many bytes its sink takes at once, and which read and which write fail, counted
+/// from 0.
 #[derive(Clone, Copy)]
-struct Failures {
-    read: u64,
-    write: u64,
+pub struct Execution<'a> {
+    pub source: &'a [u8],
+    pub mode: Mode,
+    pub workers: u32,
+    pub takes: usize,
+    pub read: u64,
+    pub write: u64,
 }
 
-const NONE: Failures = Failures {
-    read: NEVER,
-    write: NEVER,
-};
+// How much of this text was written, if nothing else was.
+fn beginning(text: &[u8], out: &MemorySink) -> Option<usize> {
+    let written = out.written();
+    if text.starts_with(written) {
+        Some(written.len())
+    } else {
+        None
+    }
+}
 
-// That an execution over a source that gives it and a sink that takes four bytes at once answers and writes this.
-fn executes<R: Abort + Threads + Wait + Sync>(
+/// What an execution answers, and how much of this text it writes; none where it writes anything else.
+pub fn executed<R: Threads + Wait + Sync>(
     rt: &R,
     alloc: Global,
-    mode: Mode,
-    workers: u32,
-    failures: Failures,
-    wanted: Result<Done, Refusal>,
+    execution: &Execution<'_>,
     text: &[u8],
-) {
-    let mut source = MemorySource::failing_in(DIVIDES, failures.read);
-    let mut out = MemorySink::failing_in(alloc, 4, failures.write);
+) -> (Answer, Option<usize>) {
+    let mut source = MemorySource::failing_in(execution.source, execution.read);
+    let mut out = MemorySink::failing_in(alloc, execution.takes, execution.write);
     let settings = Settings {
-        workers,
+        workers: execution.workers,
         marks: 512,
         buffer: 64,
     };
-    let found = execute(
+    let mode = execution.mode;
+    let answer = execute(
         alloc,
         rt,
         mode,
@@ -79,72 +95,172 @@ fn executes<R: Abort + Threads + Wait + Sync>(
         settings,
         &Unwatched,
     );
-    assert!(rt; found == wanted);
-    assert_eq!(rt; out.written(), text);
+    (answer, beginning(text, &out))
 }
+
+// An execution, what it is to answer, and the text that it is to write.
+type Case = (Execution<'static>, Answer, &'static [u8]);
+
+fn all_execute<R: Abort + Threads + Wait + Sync>(rt: &R, alloc: Global, cases: &[Case]) {
+    for (execution, wanted, text) in cases {
+        let (answer, written) = executed(rt, alloc, execution, text);
+        let is_right = answer == *wanted && written == Some(text.len());
+        expect(rt, is_right, text);
+    }
+}
+
+// An execution by one worker, whose devices don't fail.
+const REPORTING: Execution<'static> = Execution {
+    source: DIVIDES,
+    mode: Mode::Run { tail: STATS },
+    workers: 1,
+    takes: 4,
+    read: NEVER,
+    write: NEVER,
+};
+
+// An execution in mode `Plain`, which wants no workers.
+const PLAIN: Execution<'static> = Execution {
+    mode: Mode::Plain {
+        steps: 1000,
+        tail: STATS,
+    },
+    workers: 0,
+    ..REPORTING
+};
+
+static TEXTS_AND_REPORTS: [Case; 5] = [
+    (
+        Execution {
+            mode: Mode::Run { tail: NOTHING },
+            workers: 2,
+            ..REPORTING
+        },
+        WELL,
+        b"5\n",
+    ),
+    (REPORTING, WELL, REPORT),
+    (
+        Execution {
+            workers: 0,
+            ..REPORTING
+        },
+        Err(Refusal::Settings),
+        b"",
+    ),
+    (PLAIN, WELL, REPORT),
+    (
+        Execution {
+            mode: Mode::Plain {
+                steps: 1,
+                tail: STATS,
+            },
+            ..PLAIN
+        },
+        Ok(Done::NotEnded),
+        b"",
+    ),
+];
 
 #[test]
 fn writes_texts_and_reports(rt: HostRuntime) {
-    let alloc = rt.alloc();
-    let run = Mode::Run { tail: NOTHING };
-    executes(&rt, alloc, run, 2, NONE, WELL, b"5\n");
-    let run = Mode::Run { tail: STATS };
-    executes(&rt, alloc, run, 1, NONE, WELL, REPORT);
-    executes(&rt, alloc, run, 0, NONE, Err(Refusal::Settings), b"");
-    let plain = Mode::Plain {
-        steps: 1000,
-        tail: STATS,
-    };
-    executes(&rt, alloc, plain, 0, NONE, WELL, REPORT);
-    let short = Mode::Plain {
-        steps: 1,
-        tail: STATS,
-    };
-    executes(&rt, alloc, short, 0, NONE, Ok(Done::NotEnded), b"");
+    all_execute(&rt, rt.alloc(), &TEXTS_AND_REPORTS);
 }
+
+static FAILED_DEVICES: [Case; 6] = [
+    (
+        Execution {
+            read: 0,
+            ..REPORTING
+        },
+        Err(Refusal::ReadFailed),
+        b"",
+    ),
+    (
+        Execution {
+            read: 1,
+            ..REPORTING
+        },
+        Err(Refusal::ReadFailed),
+        b"",
+    ),
+    (
+        Execution {
+            write: 0,
+            ..REPORTING
+        },
+        Err(Refusal::WriteFailed),
+        b"",
+    ),
+    (
+        Execution {
+            write: 1,
+            ..REPORTING
+        },
+        Err(Refusal::WriteFailed),
+        b"5\n",
+    ),
+    (
+        Execution {
+            write: 2,
+            ..REPORTING
+        },
+        Err(Refusal::WriteFailed),
+        b"5\n",
+    ),
+    (
+        Execution {
+            write: 3,
+            ..REPORTING
+        },
+        Err(Refusal::WriteFailed),
+        b"5\nend ",
+    ),
+];
 
 #[test]
 fn tells_of_failed_devices(rt: HostRuntime) {
-    let alloc = rt.alloc();
-    let run = Mode::Run { tail: STATS };
-    for read in [0, 1] {
-        let failures = Failures { read, write: NEVER };
-        executes(&rt, alloc, run, 1, failures, Err(Refusal::ReadFailed), b"");
-    }
-    let beginnings: [(u64, &[u8]); 4] = [(0, b""), (1, b"5\n"), (2, b"5\n"), (3, b"5\nend ")];
-    for (write, text) in beginnings {
-        let failures = Failures { read: NEVER, write };
-        executes(
-            &rt,
-            alloc,
-            run,
-            1,
-            failures,
-            Err(Refusal::WriteFailed),
-            text,
-        );
-    }
+    all_execute(&rt, rt.alloc(), &FAILED_DEVICES);
 }
+
+static WITH_GLOBALS: [Case; 2] = [
+    (
+        Execution {
+            mode: Mode::Run { tail: GLOBALS },
+            workers: 2,
+            ..REPORTING
+        },
+        WELL,
+        b"5\nd 2\n",
+    ),
+    (
+        Execution {
+            mode: Mode::Plain {
+                steps: 1000,
+                tail: BOTH,
+            },
+            ..PLAIN
+        },
+        WELL,
+        REPORT_AND_GLOBALS,
+    ),
+];
 
 #[test]
 fn writes_globals(rt: HostRuntime) {
-    let alloc = rt.alloc();
-    let run = Mode::Run { tail: GLOBALS };
-    executes(&rt, alloc, run, 2, NONE, WELL, b"5\nd 2\n");
-    let plain = Mode::Plain {
-        steps: 1000,
-        tail: BOTH,
-    };
-    let wanted =
-        b"5\nend normal 0\nregions 1\nturns 2\nrepeats 0\nviolations 0\nrestarts 0\nholds 0\nabandons 0\ndiscarded 0\nspared 0\nd 2\n";
-    executes(&rt, alloc, plain, 0, NONE, WELL, wanted);
+    all_execute(&rt, rt.alloc(), &WITH_GLOBALS);
+}
+
+// What `execute_plain` answers, and how much of this text it writes.
+fn executed_plainly(alloc: Global, text: &[u8]) -> (Answer, Option<usize>) {
+    let mut source = MemorySource::new(DIVIDES);
+    let mut out = MemorySink::new(alloc);
+    let answer = execute_plain(alloc, &mut source, &[], &mut out, 1000, NOTHING);
+    (answer, beginning(text, &out))
 }
 
 #[test]
 fn executes_plainly(rt: HostRuntime) {
-    let mut source = MemorySource::new(DIVIDES);
-    let mut out = MemorySink::new(rt.alloc());
-    let found = execute_plain(rt.alloc(), &mut source, &[], &mut out, 1000, NOTHING);
-    assert!(&rt; found == WELL);
-    assert_eq!(&rt; out.written(), b"5\n".as_slice());
+    let (answer, written) = executed_plainly(rt.alloc(), b"5\n");
+    expect(&rt, answer == WELL && written == Some(2), DIVIDES);
 }

@@ -15,14 +15,13 @@ mod marked;
 mod outside;
 mod returns;
 
-use hx_run::{PlainRan, Unwatched, parse_input, run, run_plain};
-use hx_tree::outcome::{End, Finish, Settings};
+use crate::answers::{Counted, NORMAL, Row, STEPS, expect, expect_by, plain_run_of, run_of};
+use hx_run::{Unwatched, parse_input};
+use hx_tree::outcome::{End, Settings};
 use std::alloc::Global;
 use std::process::Abort;
 use std::sync::Wait;
 use std::thread::Threads;
-
-const STEPS: u64 = 100_000_000;
 
 // A program with its input text; what it prints and returns; and its whole turns, where they are known.
 #[derive(Clone, Copy)]
@@ -35,56 +34,52 @@ struct Program<'a> {
     turns: Option<u64>,
 }
 
-fn is_of(rt: &impl Abort, program: Program<'_>, finish: &Finish) {
-    let name = program.name;
-    assert!(rt;
-        finish.outcome.text.as_slice() == program.text,
-        "the text of {name}"
-    );
-    assert!(rt;
-        finish.outcome.end == End::Normal(program.returned),
-        "the end of {name}"
-    );
-    if let Some(turns) = program.turns {
-        assert_eq!(rt; finish.counts.turns, turns, "the turns of {name}");
+// Whether a run came to what its row says, with so many turns where they are known.
+fn has_turns(turns: Option<u64>, counted: Counted) -> bool {
+    match counted {
+        Ok(counts) => match turns {
+            Some(turns) => counts.turns == turns,
+            None => true,
+        },
+        Err(_) => false,
     }
 }
 
 fn holds<R: Abort + Threads + Wait + Sync>(rt: &R, alloc: Global, program: Program<'_>) {
-    let name = program.name;
     match parse_input(alloc, program.input) {
-        Ok(input) => {
-            match run_plain(alloc, program.source, input.as_slice(), STEPS) {
-                Ok(PlainRan::Ended(finish)) => is_of(rt, program, &finish),
-                _ => assert!(rt; false, "{name} by run_plain"),
-            }
-            for workers in [1, 2, 4, 8] {
-                for room in [64, 1] {
-                    holds_by(rt, alloc, program, input.as_slice(), workers, room);
-                }
-            }
-        }
-        Err(_) => assert!(rt; false, "the input of {name}"),
+        Ok(input) => holds_with(rt, alloc, &program, input.as_slice()),
+        Err(_) => expect(rt, false, program.name.as_bytes()),
     }
 }
 
-fn holds_by<R: Abort + Threads + Wait + Sync>(
+fn holds_with<'a, R: Abort + Threads + Wait + Sync>(
     rt: &R,
     alloc: Global,
-    program: Program<'_>,
-    input: &[i32],
-    workers: u32,
-    room: u32,
+    program: &Program<'a>,
+    input: &'a [i32],
 ) {
-    let settings = Settings {
-        workers,
-        marks: room,
-        buffer: room,
+    let row = Row {
+        source: program.source,
+        input,
+        text: program.text,
+        globals: None,
+        end: End::Normal(program.returned),
+        ..NORMAL
     };
-    let name = program.name;
-    match run(alloc, rt, program.source, input, settings, &Unwatched) {
-        Ok(finish) => is_of(rt, program, &finish),
-        Err(_) => assert!(rt; false, "{name} by {workers} workers with room for {room}"),
+    let name = program.name.as_bytes();
+    let turns = program.turns;
+    let counted = plain_run_of(alloc, &row, STEPS);
+    expect(rt, has_turns(turns, counted), name);
+    for workers in [1, 2, 4, 8] {
+        for room in [64, 1] {
+            let settings = Settings {
+                workers,
+                marks: room,
+                buffer: room,
+            };
+            let counted = run_of(rt, alloc, &row, settings, &Unwatched);
+            expect_by(rt, has_turns(turns, counted), name, settings);
+        }
     }
 }
 

@@ -4,6 +4,10 @@
 #[cfg(test)]
 mod alone;
 #[cfg(test)]
+mod answers;
+#[cfg(test)]
+mod building;
+#[cfg(test)]
 mod executing;
 #[cfg(test)]
 mod failing;
@@ -17,6 +21,8 @@ mod inputs;
 mod overlap;
 #[cfg(test)]
 mod paths;
+#[cfg(test)]
+mod programs;
 #[cfg(test)]
 mod refusals;
 #[cfg(test)]

@@ -1,7 +1,8 @@
 // Workers that overlap: a gate holds iteration 0 back until iteration 1 has loaded a word.
 
-use hx_run::{Call, Gate, Point, run};
-use hx_tree::outcome::{Counts, Settings};
+use crate::answers::{Counted, NORMAL, Row, expect, run_of};
+use hx_run::{Call, Gate, Point};
+use hx_tree::outcome::Settings;
 use std::alloc::Global;
 use std::process::Abort;
 use std::sync::Wait;
@@ -56,113 +57,118 @@ impl Gate for Holding {
     }
 }
 
-// A program whose iteration 1 has read what iteration 0 stores, and so begins again.
-#[derive(Clone, Copy)]
-struct Dependent<'a> {
-    source: &'a [u8],
-    text: &'a [u8],
-    turns: u64,
-}
-
-// Held there, iteration 0 stores what iteration 1 has read.
-fn overlaps<R: Abort + Threads + Wait + Sync>(
+// A run on so many workers, where iteration 0 goes on at this point once iteration 1 has loaded a word. None where it has loaded none.
+fn held_run_of<R: Threads + Wait + Sync>(
     rt: &R,
     alloc: Global,
-    program: Dependent<'_>,
+    row: &Row<'_>,
     workers: u32,
     point: Point,
-) {
+) -> Option<Counted> {
     let gate = Holding::at_first(point);
     let settings = Settings {
         workers,
         marks: 512,
         buffer: 64,
     };
-    match run(alloc, rt, program.source, &[], settings, &gate) {
-        Ok(finish) => {
-            assert_eq!(rt; finish.outcome.text.as_slice(), program.text);
-            assert_eq!(rt; finish.counts.turns, program.turns);
-            assert!(rt; finish.counts.violations >= 1);
-            assert!(rt; finish.counts.restarts >= 1);
-            assert!(rt; finish.counts.repeats >= 1);
-        }
-        Err(_) => assert!(rt; false),
+    let counted = run_of(rt, alloc, row, settings, &gate);
+    if gate.missed.load(Ordering::SeqCst) == 0 && gate.has_loaded.load(Ordering::SeqCst) == 1 {
+        Some(counted)
+    } else {
+        None
     }
-    assert_eq!(rt; gate.has_loaded.load(Ordering::SeqCst), 1);
-    assert_eq!(rt; gate.missed.load(Ordering::SeqCst), 0);
 }
+
+// That iteration 0, held there, stores what iteration 1 has read, which so begins again.
+fn overlaps<R: Abort + Threads + Wait + Sync>(
+    rt: &R,
+    alloc: Global,
+    row: &Row<'_>,
+    workers: u32,
+    point: Point,
+) {
+    let is_right = match held_run_of(rt, alloc, row, workers, point) {
+        Some(Ok(counts)) => {
+            counts.turns == row.turns
+                && counts.violations >= 1
+                && counts.restarts >= 1
+                && counts.repeats >= 1
+        }
+        _ => false,
+    };
+    expect(rt, is_right, row.source);
+}
+
+static SUM: Row<'static> = Row {
+    source: b"int main(){ int s=0; pfor(int i=1;i<=100;i++) s+=i; print(s); }",
+    text: b"5050\n",
+    regions: 1,
+    turns: 100,
+    ..NORMAL
+};
 
 // Each turn adds to the sum of the one before.
 #[test]
 fn gate_overlap(rt: HostRuntime) {
-    let sum = Dependent {
-        source: b"int main(){ int s=0; pfor(int i=1;i<=100;i++) s+=i; print(s); }",
-        text: b"5050\n",
-        turns: 100,
-    };
-    overlaps(&rt, rt.alloc(), sum, 2, Point::InStretch);
-    overlaps(&rt, rt.alloc(), sum, 2, Point::BeforeCall(Call::Load));
+    overlaps(&rt, rt.alloc(), &SUM, 2, Point::InStretch);
+    overlaps(&rt, rt.alloc(), &SUM, 2, Point::BeforeCall(Call::Load));
 }
+
+static WAITING: Row<'static> = Row {
+    source: b"int go; int main(){ pfor(int i=0;i<2;i++){ if(i==0) go=1; else while(go==0){} } print(go); }",
+    text: b"1\n",
+    globals: Some(&[1]),
+    regions: 1,
+    turns: 2,
+    ..NORMAL
+};
 
 // Iteration 1 waits in its turn for a word that iteration 0 stores: what it has read is taken back.
 #[test]
 fn a_turn_waits_for_another(rt: HostRuntime) {
-    let waiting = Dependent {
-        source: b"int go; int main(){ pfor(int i=0;i<2;i++){ if(i==0) go=1; else while(go==0){} } print(go); }",
-        text: b"1\n",
-        turns: 2,
-    };
     for workers in [2, 4, 8] {
-        overlaps(&rt, rt.alloc(), waiting, workers, Point::InStretch);
+        overlaps(&rt, rt.alloc(), &WAITING, workers, Point::InStretch);
     }
 }
 
-// What is counted of a run on two workers, where iteration 0 goes on once iteration 1 has loaded a word.
-fn counts_of<R: Abort + Threads + Wait + Sync>(
-    rt: &R,
-    alloc: Global,
-    source: &[u8],
-) -> Option<Counts> {
-    let gate = Holding::at_first(Point::InStretch);
-    let settings = Settings {
-        workers: 2,
-        marks: 512,
-        buffer: 64,
-    };
-    let ran = run(alloc, rt, source, &[], settings, &gate);
-    assert_eq!(rt; gate.missed.load(Ordering::SeqCst), 0);
-    match ran {
-        Ok(finish) => Some(finish.counts),
-        Err(_) => None,
-    }
-}
+static SPARED: Row<'static> = Row {
+    source: b"int go; int x; int main(){ pfor(int i=0;i<2;i++){ if(i==0) go=0; else x=go; } }",
+    globals: Some(&[0, 0]),
+    regions: 1,
+    turns: 2,
+    ..NORMAL
+};
 
 // Iteration 0 stores the 0 that iteration 1 has read.
 #[test]
 fn a_store_of_what_was_read_is_spared(rt: HostRuntime) {
-    let source = b"int go; int x; int main(){ pfor(int i=0;i<2;i++){ if(i==0) go=0; else x=go; } }";
-    match counts_of(&rt, rt.alloc(), source) {
-        Some(counts) => {
-            assert_eq!(&rt; counts.spared, 1);
-            assert_eq!(&rt; counts.violations, 0);
-            assert_eq!(&rt; counts.restarts, 0);
-            assert_eq!(&rt; counts.repeats, 0);
+    let is_right = match held_run_of(&rt, rt.alloc(), &SPARED, 2, Point::InStretch) {
+        Some(Ok(counts)) => {
+            counts.spared == 1
+                && counts.violations == 0
+                && counts.restarts == 0
+                && counts.repeats == 0
         }
-        None => assert!(&rt; false),
-    }
+        _ => false,
+    };
+    expect(&rt, is_right, SPARED.source);
 }
+
+static LEAVING: Row<'static> = Row {
+    source: b"int go; int main(){ pfor(int i=0;i<9;i++){ if(i==0) break; go=go+1; } }",
+    globals: Some(&[0]),
+    regions: 1,
+    ..NORMAL
+};
 
 // Iteration 0 leaves the loop, while iteration 1 is under way.
 #[test]
 fn what_runs_behind_the_end_is_dropped(rt: HostRuntime) {
-    let source = b"int go; int main(){ pfor(int i=0;i<9;i++){ if(i==0) break; go=go+1; } }";
-    match counts_of(&rt, rt.alloc(), source) {
-        Some(counts) => {
-            assert_eq!(&rt; counts.discarded, 1);
-            assert_eq!(&rt; counts.turns, 0);
-        }
-        None => assert!(&rt; false),
-    }
+    let is_right = match held_run_of(&rt, rt.alloc(), &LEAVING, 2, Point::InStretch) {
+        Some(Ok(counts)) => counts.discarded == 1 && counts.turns == 0,
+        _ => false,
+    };
+    expect(&rt, is_right, LEAVING.source);
 }
 
 /// Counts how often a worker has run as many words as it may without a call, and asks whether its iteration is alive.
@@ -179,8 +185,12 @@ impl Gate for Long {
     }
 }
 
-// That one worker runs so many stretches to their limit.
-fn has_long<R: Abort + Threads + Wait + Sync>(rt: &R, alloc: Global, source: &[u8], count: u64) {
+// How many stretches one worker runs to their limit, where the run comes to this row.
+fn long_stretches_of<R: Threads + Wait + Sync>(
+    rt: &R,
+    alloc: Global,
+    row: &Row<'_>,
+) -> Option<u64> {
     let gate = Long {
         stretches: AtomicU64::new(0),
     };
@@ -189,19 +199,41 @@ fn has_long<R: Abort + Threads + Wait + Sync>(rt: &R, alloc: Global, source: &[u
         marks: 512,
         buffer: 64,
     };
-    let ran = run(alloc, rt, source, &[], settings, &gate);
-    assert!(rt; ran.is_ok());
-    assert_eq!(rt; gate.stretches.load(Ordering::SeqCst), count);
+    match run_of(rt, alloc, row, settings, &gate) {
+        Ok(_) => Some(gate.stretches.load(Ordering::SeqCst)),
+        Err(_) => None,
+    }
 }
+
+static STRETCHES: [(Row<'static>, u64); 2] = [
+    (
+        Row {
+            source: b"int g; int main(){ pfor(int i=0;i<1;i++){ int k; for(k=0;k<112;k++) ; k=k; g=k; } }",
+            globals: Some(&[112]),
+            regions: 1,
+            turns: 1,
+            ..NORMAL
+        },
+        0,
+    ),
+    (
+        Row {
+            source: b"int g; int main(){ pfor(int i=0;i<1;i++){ int k; for(k=0;k<112;k++) ; k=-k; g=k; } }",
+            globals: Some(&[-112]),
+            regions: 1,
+            turns: 1,
+            ..NORMAL
+        },
+        1,
+    ),
+];
 
 // Before the store of `g` a turn has 4 words for its test, 2 for `k`, 2 for its first value, 9 for each of 112 rounds, 4 for the last test
 // and 1 for what is stored: 1,021. With `k=k;` there are 2 more, and with `k=-k;` 3 more.
 #[test]
 fn a_stretch_has_1024_words(rt: HostRuntime) {
-    let short =
-        b"int g; int main(){ pfor(int i=0;i<1;i++){ int k; for(k=0;k<112;k++) ; k=k; g=k; } }";
-    let long =
-        b"int g; int main(){ pfor(int i=0;i<1;i++){ int k; for(k=0;k<112;k++) ; k=-k; g=k; } }";
-    has_long(&rt, rt.alloc(), short, 0);
-    has_long(&rt, rt.alloc(), long, 1);
+    for (row, count) in &STRETCHES {
+        let found = long_stretches_of(&rt, rt.alloc(), row);
+        expect(&rt, found == Some(*count), row.source);
+    }
 }

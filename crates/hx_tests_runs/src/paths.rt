@@ -1,12 +1,15 @@
 // Worked programs and refusals, by the whole path.
 
-use hx_run::{PlainRan, Refusal, Unwatched, are_in_range, compile, run, run_plain};
-use hx_tree::outcome::{End, Finish, Settings};
+use crate::answers::{
+    NORMAL, Otherwise, Row, expect, is_as, is_refused, plain_run_of, refusal_of, run_of,
+};
+use crate::building::{in_parentheses, repeated};
+use hx_run::{Unwatched, are_in_range};
+use hx_tree::outcome::Settings;
 use hx_tree::token::Pos;
 use std::alloc::Global;
 use std::process::Abort;
 use std::sync::Wait;
-use std::test::Fail;
 use std::thread::Threads;
 
 const TWO_WORKERS: Settings = Settings {
@@ -15,174 +18,163 @@ const TWO_WORKERS: Settings = Settings {
     buffer: 64,
 };
 
-fn runs_to<R: Abort + Threads + Wait + Sync>(
-    rt: &R,
-    alloc: Global,
-    source: &[u8],
-    text: &[u8],
-    globals: &[i32],
-    turns: u64,
-) {
-    match run(alloc, rt, source, &[], TWO_WORKERS, &Unwatched) {
-        Ok(finish) => {
-            assert_eq!(rt; finish.outcome.text.as_slice(), text);
-            assert_eq!(rt; finish.outcome.globals.as_slice(), globals);
-            assert!(rt; finish.outcome.end == End::Normal(0));
-            assert_eq!(rt; finish.counts.turns, turns);
-        }
-        Err(_) => assert!(rt; false),
-    }
-}
+static WORKED: [Row<'static>; 4] = [
+    Row {
+        source: b"int main(){}",
+        ..NORMAL
+    },
+    Row {
+        source: b"int a; int b; int c; int main(){ pwhile(c<2){ a=a+1; print(a); b=b+a; print(b); c=c+1; } }",
+        text: b"1\n1\n2\n3\n",
+        globals: Some(&[2, 3, 2]),
+        regions: 1,
+        turns: 2,
+        ..NORMAL
+    },
+    Row {
+        source: b"int c; int main(){ pwhile(c<3){ print(c); c=c+1; } }",
+        text: b"0\n1\n2\n",
+        globals: Some(&[3]),
+        regions: 1,
+        turns: 3,
+        ..NORMAL
+    },
+    Row {
+        source: b"int c; int main(){ pwhile(c<2){ c=c+1; } }",
+        globals: Some(&[2]),
+        regions: 1,
+        turns: 2,
+        ..NORMAL
+    },
+];
 
 #[test]
 fn runs_worked_programs(rt: HostRuntime) {
-    let alloc = rt.alloc();
-    runs_to(&rt, alloc, b"int main(){}", b"", &[], 0);
-    runs_to(
-        &rt,
-        alloc,
-        b"int a; int b; int c; int main(){ pwhile(c<2){ a=a+1; print(a); b=b+a; print(b); c=c+1; } }",
-        b"1\n1\n2\n3\n",
-        &[2, 3, 2],
-        2,
-    );
-    runs_to(
-        &rt,
-        alloc,
-        b"int c; int main(){ pwhile(c<3){ print(c); c=c+1; } }",
-        b"0\n1\n2\n",
-        &[3],
-        3,
-    );
-    runs_to(
-        &rt,
-        alloc,
-        b"int c; int main(){ pwhile(c<2){ c=c+1; } }",
-        b"",
-        &[2],
-        2,
-    );
-}
-
-fn refused(rt: &impl Abort, alloc: Global, source: &[u8], number: u32, pos: Option<Pos>) {
-    match compile(alloc, source) {
-        Ok(_) => assert!(rt; false),
-        Err(refusal) => {
-            assert_eq!(rt; refusal.number(), number);
-            assert!(rt; refusal.pos() == pos);
-            assert!(rt; !refusal.is_memory());
-        }
+    for row in &WORKED {
+        let counted = run_of(&rt, rt.alloc(), row, TWO_WORKERS, &Unwatched);
+        expect(&rt, is_as(row, counted), row.source);
     }
 }
 
-fn at(line: u32, col: u32) -> Option<Pos> {
-    Some(Pos { line, col })
+fn refuses(rt: &(impl Abort + Alloc<A = Global>), source: &[u8], number: u32, pos: Option<Pos>) {
+    let is_right = match refusal_of(rt.alloc(), source) {
+        Some(refusal) => {
+            refusal.number() == number && refusal.pos() == pos && !refusal.is_memory()
+        }
+        None => false,
+    };
+    expect(rt, is_right, source);
 }
 
-#[test]
-fn refuses_sources(rt: HostRuntime) -> Result<(), Fail> {
-    let alloc = rt.alloc();
-    refused(&rt, alloc, b"int $x;", 1, at(1, 5));
-    refused(&rt, alloc, b"int main(){ int x=08; }", 2, at(1, 19));
-    refused(&rt, alloc, b"/* x", 3, at(1, 1));
-    let mut long_name = Vec::from_slice(alloc, b"int ")?;
-    long_name.extend_from_slice(&[b'x'; 64])?;
-    long_name.extend_from_slice(b";")?;
-    refused(&rt, alloc, long_name.as_slice(), 4, at(1, 5));
-    let blanks = vec![in alloc; b' '; 65537]?;
-    refused(&rt, alloc, blanks.as_slice(), 5, None);
-    refused(&rt, alloc, b"int main(){ print(1) }", 10, at(1, 22));
-    let mut deep = Vec::from_slice(alloc, b"int main(){ print(")?;
-    deep.extend_from_slice(&[b'('; 196])?;
-    deep.push(b'1')?;
-    deep.extend_from_slice(&[b')'; 196])?;
-    deep.extend_from_slice(b"); }")?;
-    refused(&rt, alloc, deep.as_slice(), 11, None);
-    refused(
-        &rt,
-        alloc,
+static REFUSED: [(&[u8], u32, Option<Pos>); 11] = [
+    (b"int $x;", 1, Some(Pos { line: 1, col: 5 })),
+    (
+        b"int main(){ int x=08; }",
+        2,
+        Some(Pos { line: 1, col: 19 }),
+    ),
+    (b"/* x", 3, Some(Pos { line: 1, col: 1 })),
+    (
+        b"int main(){ print(1) }",
+        10,
+        Some(Pos { line: 1, col: 22 }),
+    ),
+    (
         b"int f(){ return x; } int main(){}",
         20,
-        at(1, 17),
-    );
-    refused(&rt, alloc, b"int x; int x; int main(){}", 21, at(1, 12));
-    refused(&rt, alloc, b"int main(){ main=1; }", 22, at(1, 13));
-    refused(
-        &rt,
-        alloc,
+        Some(Pos { line: 1, col: 17 }),
+    ),
+    (
+        b"int x; int x; int main(){}",
+        21,
+        Some(Pos { line: 1, col: 12 }),
+    ),
+    (b"int main(){ main=1; }", 22, Some(Pos { line: 1, col: 13 })),
+    (
         b"int f(int a){ return a; } int main(){ print(f()); }",
         23,
-        at(1, 45),
-    );
-    refused(&rt, alloc, b"int main(){ break; }", 24, at(1, 13));
-    refused(&rt, alloc, b"", 25, None);
-    refused(
-        &rt,
-        alloc,
+        Some(Pos { line: 1, col: 45 }),
+    ),
+    (b"int main(){ break; }", 24, Some(Pos { line: 1, col: 13 })),
+    (b"", 25, None),
+    (
         b"int a[262144]; int b; int main(){}",
         26,
-        at(1, 20),
-    );
-    Ok(())
+        Some(Pos { line: 1, col: 20 }),
+    ),
+];
+
+#[test]
+fn refuses_sources(rt: HostRuntime) {
+    for (source, number, pos) in &REFUSED {
+        refuses(&rt, source, *number, *pos);
+    }
+    let long_name = repeated(&rt, b"int ", b"x", 64, b";");
+    refuses(&rt, long_name.as_slice(), 4, Some(Pos { line: 1, col: 5 }));
+    let blanks = repeated(&rt, b"", b" ", 65537, b"");
+    refuses(&rt, blanks.as_slice(), 5, None);
+    let deep = in_parentheses(&rt, 196);
+    refuses(&rt, deep.as_slice(), 11, None);
 }
 
-fn refuses_run<R: Abort + Threads + Wait + Sync>(
-    rt: &R,
-    alloc: Global,
-    settings: Settings,
-    number: u32,
-) {
-    let source = b"int c; int main(){ pwhile(c<3){ print(c); c=c+1; } }".as_slice();
-    match run(alloc, rt, source, &[7], settings, &Unwatched) {
-        Ok(_) => assert!(rt; false),
-        Err(refusal) => assert_eq!(rt; refusal.number(), number),
-    }
-}
+static WITHOUT_INPUT: Row<'static> = Row {
+    source: b"int c; int main(){ pwhile(c<3){ print(c); c=c+1; } }",
+    input: &[7],
+    ..NORMAL
+};
+
+// Settings, and the number of the refusal of a run with them whose input doesn't fit.
+static SETTINGS: [(Settings, u32); 5] = [
+    (TWO_WORKERS, 61),
+    (
+        Settings {
+            workers: 0,
+            ..TWO_WORKERS
+        },
+        60,
+    ),
+    (
+        Settings {
+            workers: 17,
+            ..TWO_WORKERS
+        },
+        60,
+    ),
+    (
+        Settings {
+            marks: 0,
+            ..TWO_WORKERS
+        },
+        60,
+    ),
+    (
+        Settings {
+            buffer: 4097,
+            ..TWO_WORKERS
+        },
+        60,
+    ),
+];
 
 #[test]
 fn refuses_settings_before_input(rt: HostRuntime) {
-    let alloc = rt.alloc();
-    refuses_run(&rt, alloc, TWO_WORKERS, 61);
-    let none = Settings {
-        workers: 0,
-        ..TWO_WORKERS
-    };
-    refuses_run(&rt, alloc, none, 60);
-    let seventeen = Settings {
-        workers: 17,
-        ..TWO_WORKERS
-    };
-    refuses_run(&rt, alloc, seventeen, 60);
-    let no_marks = Settings {
-        marks: 0,
-        ..TWO_WORKERS
-    };
-    refuses_run(&rt, alloc, no_marks, 60);
-    let large_buffer = Settings {
-        buffer: 4097,
-        ..TWO_WORKERS
-    };
-    refuses_run(&rt, alloc, large_buffer, 60);
-    assert!(&rt; are_in_range(TWO_WORKERS));
+    for (settings, number) in &SETTINGS {
+        let counted = run_of(&rt, rt.alloc(), &WITHOUT_INPUT, *settings, &Unwatched);
+        expect(&rt, is_refused(counted, *number), WITHOUT_INPUT.source);
+    }
+    expect(&rt, are_in_range(TWO_WORKERS), b"two workers");
 }
 
-fn ended(ran: Result<PlainRan, Refusal>) -> Option<Finish> {
-    match ran {
-        Ok(PlainRan::Ended(finish)) => Some(finish),
-        _ => None,
-    }
+// That a run isn't over after so few words, and is over after so many.
+fn takes_words(rt: &(impl Abort + Alloc<A = Global>), row: &Row<'_>, few: u64, enough: u64) {
+    let is_under_way = matches!(plain_run_of(rt.alloc(), row, few), Err(Otherwise::NotEnded));
+    expect(rt, is_under_way, row.source);
+    let counted = plain_run_of(rt.alloc(), row, enough);
+    expect(rt, counted.is_ok(), row.source);
 }
 
 #[test]
 fn counts_words(rt: HostRuntime) {
-    let alloc = rt.alloc();
-    let empty = b"int main(){}".as_slice();
-    assert!(&rt; ended(run_plain(alloc, empty, &[], 1)).is_none());
-    assert!(&rt; ended(run_plain(alloc, empty, &[], 2)).is_some());
-    let two_turns = b"int c; int main(){ pwhile(c<2){ c=c+1; } }".as_slice();
-    assert!(&rt; ended(run_plain(alloc, two_turns, &[], 25)).is_none());
-    match ended(run_plain(alloc, two_turns, &[], 26)) {
-        Some(finish) => assert_eq!(&rt; finish.outcome.globals.as_slice(), [2].as_slice()),
-        None => assert!(&rt; false),
-    }
+    takes_words(&rt, &WORKED[0], 1, 2);
+    takes_words(&rt, &WORKED[3], 25, 26);
 }

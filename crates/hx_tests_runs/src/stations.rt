@@ -1,34 +1,28 @@
 // Workers that stay from loop to loop.
 
-use hx_run::{Unwatched, run};
+use crate::answers::{NORMAL, Row, expect_by, is_as, run_of};
+use hx_run::Unwatched;
 use hx_tree::outcome::Settings;
-use std::alloc::Global;
-use std::process::Abort;
-use std::sync::Wait;
-use std::thread::Threads;
 
 // A thousand short loops, each of two turns that add to one global.
-fn all_loops_count<R: Abort + Threads + Wait + Sync>(rt: &R, alloc: Global, workers: u32) {
-    let settings = Settings {
-        workers,
-        marks: 512,
-        buffer: 64,
-    };
-    let source =
-        b"int c; int main(){ int k; for(k=0;k<1000;k++) pfor(int i=0;i<2;i++) c+=k; print(c); }";
-    match run(alloc, rt, source, &[], settings, &Unwatched) {
-        Ok(finish) => {
-            assert_eq!(rt; finish.outcome.text.as_slice(), b"999000\n".as_slice());
-            assert_eq!(rt; finish.counts.regions, 1000);
-            assert_eq!(rt; finish.counts.turns, 2000);
-        }
-        Err(_) => assert!(rt; false),
-    }
-}
+static THOUSAND: Row<'static> = Row {
+    source: b"int c; int main(){ int k; for(k=0;k<1000;k++) pfor(int i=0;i<2;i++) c+=k; print(c); }",
+    text: b"999000\n",
+    globals: Some(&[999000]),
+    regions: 1000,
+    turns: 2000,
+    ..NORMAL
+};
 
 #[test]
 fn a_thousand_loops(rt: HostRuntime) {
     for workers in [1, 2, 8] {
-        all_loops_count(&rt, rt.alloc(), workers);
+        let settings = Settings {
+            workers,
+            marks: 512,
+            buffer: 64,
+        };
+        let counted = run_of(&rt, rt.alloc(), &THOUSAND, settings, &Unwatched);
+        expect_by(&rt, is_as(&THOUSAND, counted), THOUSAND.source, settings);
     }
 }
