@@ -5,12 +5,12 @@ use std::fmt::Display;
 use std::process::Abort;
 
 /// Stops the test where this case is not as it is to be.
-pub fn expect(rt: &impl Abort, is_right: bool, case: &[u8]) {
+pub(crate) fn expect(rt: &impl Abort, is_right: bool, case: &[u8]) {
     assert!(rt; is_right, "{}", case.escape_ascii());
 }
 
 /// Whether this text is how a value is shown.
-pub fn is_shown(alloc: Global, value: &impl Display, text: &[u8]) -> bool {
+pub(crate) fn is_shown(alloc: Global, value: &impl Display, text: &[u8]) -> bool {
     match value.to_string(alloc) {
         Ok(shown) => shown.as_bytes() == text,
         Err(_) => false,

@@ -52,7 +52,7 @@ pub enum Otherwise {
 pub type Counted = Result<Counts, Otherwise>;
 
 /// A program that is to print this, whose input, globals and loops are those of `NORMAL`.
-pub fn row_of<'a>(source: &'a [u8], text: &'a [u8]) -> Row<'a> {
+pub(crate) fn row_of<'a>(source: &'a [u8], text: &'a [u8]) -> Row<'a> {
     Row {
         source,
         text,
@@ -61,7 +61,7 @@ pub fn row_of<'a>(source: &'a [u8], text: &'a [u8]) -> Row<'a> {
 }
 
 /// A program that prints a letter `A` in each turn, until its text is full, which is to be this one.
-pub fn full_text(text: &[u8]) -> Row<'_> {
+pub(crate) fn full_text(text: &[u8]) -> Row<'_> {
     Row {
         source: b"int main(){ pwhile(1) emit(65); }",
         text,
@@ -89,7 +89,7 @@ fn counted(row: &Row<'_>, finish: &Finish) -> Counted {
 }
 
 /// A run on workers.
-pub fn run_of<R: Threads + Wait + Sync, G: Gate>(
+pub(crate) fn run_of<R: Threads + Wait + Sync, G: Gate>(
     rt: &R,
     alloc: Global,
     row: &Row<'_>,
@@ -100,7 +100,7 @@ pub fn run_of<R: Threads + Wait + Sync, G: Gate>(
 }
 
 /// A run that came to a finish or to a refusal.
-pub fn counted_of(row: &Row<'_>, ran: Result<Finish, Refusal>) -> Counted {
+pub(crate) fn counted_of(row: &Row<'_>, ran: Result<Finish, Refusal>) -> Counted {
     match ran {
         Ok(finish) => counted(row, &finish),
         Err(refusal) => Err(Otherwise::Refused(refusal.number())),
@@ -108,7 +108,7 @@ pub fn counted_of(row: &Row<'_>, ran: Result<Finish, Refusal>) -> Counted {
 }
 
 /// A run of so many words by the plain machine.
-pub fn plain_run_of(alloc: Global, row: &Row<'_>, steps: u64) -> Counted {
+pub(crate) fn plain_run_of(alloc: Global, row: &Row<'_>, steps: u64) -> Counted {
     match run_plain(alloc, row.source, row.input, steps) {
         Ok(PlainRan::Ended(finish)) => counted(row, &finish),
         Ok(PlainRan::More) => Err(Otherwise::NotEnded),
@@ -117,19 +117,19 @@ pub fn plain_run_of(alloc: Global, row: &Row<'_>, steps: u64) -> Counted {
 }
 
 /// Whether a run came to what its row says, and ran so many marked loops and turns.
-pub fn is_as(row: &Row<'_>, counted: Counted) -> bool {
+pub(crate) fn is_as(row: &Row<'_>, counted: Counted) -> bool {
     match counted {
         Ok(counts) => counts.regions == row.regions && counts.turns == row.turns,
         Err(_) => false,
     }
 }
 
-pub fn is_refused(counted: Counted, number: u32) -> bool {
+pub(crate) fn is_refused(counted: Counted, number: u32) -> bool {
     matches!(counted, Err(Otherwise::Refused(found)) if found == number)
 }
 
 /// Why a source is refused, if it is.
-pub fn refusal_of(alloc: Global, source: &[u8]) -> Option<Refusal> {
+pub(crate) fn refusal_of(alloc: Global, source: &[u8]) -> Option<Refusal> {
     match compile(alloc, source) {
         Ok(_) => None,
         Err(refusal) => Some(refusal),
@@ -137,7 +137,7 @@ pub fn refusal_of(alloc: Global, source: &[u8]) -> Option<Refusal> {
 }
 
 /// The number that a source is refused by, or 0.
-pub fn refused(alloc: Global, source: &[u8]) -> u32 {
+pub(crate) fn refused(alloc: Global, source: &[u8]) -> u32 {
     match refusal_of(alloc, source) {
         Some(refusal) => refusal.number(),
         None => 0,
@@ -145,12 +145,12 @@ pub fn refused(alloc: Global, source: &[u8]) -> u32 {
 }
 
 /// Stops the test where this case is not as it is to be.
-pub fn expect(rt: &impl Abort, is_right: bool, case: &[u8]) {
+pub(crate) fn expect(rt: &impl Abort, is_right: bool, case: &[u8]) {
     assert!(rt; is_right, "{}", case.escape_ascii());
 }
 
 /// `expect` of a run on so many workers.
-pub fn expect_by(rt: &impl Abort, is_right: bool, case: &[u8], settings: Settings) {
+pub(crate) fn expect_by(rt: &impl Abort, is_right: bool, case: &[u8], settings: Settings) {
     let Settings {
         workers,
         marks,

@@ -3,7 +3,7 @@
 use std::alloc::Global;
 use std::process::Abort;
 
-pub fn copied(rt: &(impl Abort + Alloc<A = Global>), text: &[u8]) -> Vec<u8> {
+pub(crate) fn copied(rt: &(impl Abort + Alloc<A = Global>), text: &[u8]) -> Vec<u8> {
     match text.to_vec(rt.alloc()) {
         Ok(copy) => copy,
         Err(_) => rt.panic("no memory for a text"),
@@ -11,7 +11,7 @@ pub fn copied(rt: &(impl Abort + Alloc<A = Global>), text: &[u8]) -> Vec<u8> {
 }
 
 /// Writes a text behind another, so many times.
-pub fn append(rt: &impl Abort, all: &mut Vec<u8>, text: &[u8], count: usize) {
+pub(crate) fn append(rt: &impl Abort, all: &mut Vec<u8>, text: &[u8], count: usize) {
     for _ in 0..count {
         match all.extend_from_slice(text) {
             Ok(()) => {}
@@ -21,7 +21,7 @@ pub fn append(rt: &impl Abort, all: &mut Vec<u8>, text: &[u8], count: usize) {
 }
 
 /// A text, another so many times, and a third.
-pub fn repeated(
+pub(crate) fn repeated(
     rt: &(impl Abort + Alloc<A = Global>),
     before: &[u8],
     part: &[u8],
@@ -35,7 +35,7 @@ pub fn repeated(
 }
 
 /// `int main(){ print(1); }` with so many pairs of parentheses round the 1.
-pub fn in_parentheses(rt: &(impl Abort + Alloc<A = Global>), pairs: usize) -> Vec<u8> {
+pub(crate) fn in_parentheses(rt: &(impl Abort + Alloc<A = Global>), pairs: usize) -> Vec<u8> {
     let mut source = repeated(rt, b"int main(){ print(", b"(", pairs, b"1");
     append(rt, &mut source, b")", pairs);
     append(rt, &mut source, b"); }", 1);

@@ -71,7 +71,7 @@ fn beginning(text: &[u8], out: &MemorySink) -> Option<usize> {
 }
 
 /// What an execution answers, and how much of this text it writes; none where it writes anything else.
-pub fn executed<R: Threads + Wait + Sync>(
+pub(crate) fn executed<R: Threads + Wait + Sync>(
     rt: &R,
     alloc: Global,
     execution: &Execution<'_>,

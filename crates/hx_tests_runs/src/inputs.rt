@@ -7,7 +7,7 @@ use std::alloc::Global;
 use std::process::Abort;
 
 /// Whether a text spells these numbers, or where there are none, whether it is refused as no input text.
-pub fn is_read(alloc: Global, text: &[u8], wanted: Option<&[i32]>) -> bool {
+pub(crate) fn is_read(alloc: Global, text: &[u8], wanted: Option<&[i32]>) -> bool {
     match parse_input(alloc, text) {
         Ok(numbers) => match wanted {
             Some(wanted) => numbers.as_slice() == wanted,
