@@ -5,18 +5,17 @@ ghost use Rattle.hx_board.specs.Board.{Setup};
 ghost use Rattle.hx_word.specs.Entry.{EntryFits};
 ghost use Rattle.hx_pool.specs.Setups.{setup_by};
 
+use crate::machines::{ROOMS, code_for, expect, first_entry, frame_for};
 use hx_board::{Alive, Board, Head, Headed, Job, Loaded, Settled, Started, State, Stored};
 use hx_exec::executable::Executable;
-use hx_frame::{Capacities, Frame};
+use hx_frame::Frame;
 use hx_pool::{Shared, Unwatched, work};
-use hx_run::executable_of;
 use hx_word::entry::Entry;
-use hx_word::plain::{Open, Paused, Plain};
 use std::alloc::Global;
 use std::marker::{Brand, PhantomData};
+use std::process::Abort;
 use std::sync::atomic::{AtomicU64, Ordering};
 use std::sync::{Mutex, Wait};
-use std::test::Fail;
 
 /// What a fake's board was made for.
 pub(crate) trait Made {
@@ -38,7 +37,7 @@ pub(crate) struct Kept<'c, M: Made> {
 }
 
 /// What is answered in the board's place.
-#[derive(Clone, Copy, PartialEq, Eq, Debug)]
+#[derive(Clone, Copy)]
 enum Lie {
     Squashed,
     Full,
@@ -64,11 +63,6 @@ impl<'c, M: Made> Fake<'c, M> {
             at,
             lie,
         }
-    }
-
-    /// A board that always answers truly.
-    pub(crate) fn truthful(kept: Kept<'c, M>) -> Fake<'c, M> {
-        Fake::lying_at(kept, u64::MAX, Lie::Ended)
     }
 
     /// The board.
@@ -171,82 +165,56 @@ impl<M: Made> Shared for Fake<'_, M> {
 // What is committed of the first word, and whether the region is left.
 type Shown = (i32, bool);
 
-const ROOMS: Capacities = Capacities {
-    marks: 512,
-    buffer: 64,
-};
-
-fn shown_of(board: &Board<'_>) -> Result<Shown, Fail> {
+fn shown_of(rt: &impl Abort, board: &Board<'_>) -> Shown {
     let (store, _text, state) = board.settled();
     match store.first() {
-        Some(word) => Ok((*word, state == State::Left)),
-        None => Err(Fail::from("a store is wanted")),
+        Some(word) => (*word, state == State::Left),
+        None => rt.panic("a store is wanted"),
+    }
+}
+
+// A board for one worker.
+fn kept_for<'c, M: Made>(rt: &impl Abort, alloc: Global, job: Job<'c>, entry: &Entry) -> Kept<'c, M>
+    requires fits { EntryFits job.code.now job.region entry.now }
+    requires own { setup_by job.code.now job.region entry.now 1 ROOMS ≡ M.setup }
+{
+    match Board::new(alloc, job, entry, 1, ROOMS) {
+        Ok(board) => Kept {
+            board,
+            made: PhantomData,
+        },
+        Err(_) => rt.panic("no memory for a board"),
     }
 }
 
 // A worker by itself, over a board that lies at one call.
-fn works_over<M: Made + Send + Sync, W: Wait>(
+fn works_over<M: Made + Send + Sync, W: Abort + Wait>(
     rt: &W,
     alloc: Global,
     job: Job<'_>,
     entry: &Entry,
     at: u64,
     lie: Lie,
-) -> Result<Shown, Fail>
+) -> Shown
     requires fits { EntryFits job.code.now job.region entry.now }
     requires own { setup_by job.code.now job.region entry.now 1 ROOMS ≡ M.setup }
 {
-    let code = job.code;
-    let board = Board::new(alloc, job, entry, 1, ROOMS)?;
-    let mut frame = Frame::new(alloc, code, ROOMS)?;
-    let kept: Kept<'_, M> = Kept {
-        board,
-        made: PhantomData,
-    };
+    let mut frame = frame_for(rt, alloc, job.code);
+    let kept = kept_for::<M>(rt, alloc, job, entry);
     let fake = Fake::lying_at(kept, at, lie);
     work(rt, 0, &fake, &mut frame, &Unwatched);
-    let kept = fake.into_board();
-    shown_of(&kept.board)
+    shown_of(rt, &fake.into_board().board)
 }
 
-// The same at a region that has opened.
-fn works_at<W: Wait>(
-    rt: &W,
-    alloc: Global,
-    code: &Executable,
-    opened: &Open<'_>,
-    at: u64,
-    lie: Lie,
-) -> Result<Shown, Fail>
-    requires { opened.now.code ≡ code.now }
-{
-    let entry = opened.entry(alloc)?;
-    let job = Job {
-        code,
-        region: opened.region(),
-    };
+// The same at the first region of a code.
+fn works<W: Abort + Wait>(rt: &W, alloc: Global, code: &Executable, at: u64, lie: Lie) -> Shown {
+    let (region, entry) = first_entry(rt, alloc, code);
+    let job = Job { code, region };
     works_over::<Brand, W>(rt, alloc, job, &entry, at, lie)
 }
 
-// The first region of a code.
-fn works_to_the_end<W: Wait>(
-    rt: &W,
-    alloc: Global,
-    code: &Executable,
-    at: u64,
-    lie: Lie,
-) -> Result<Shown, Fail> {
-    let Ok(plain) = Plain::new(alloc, code, &[]) else {
-        return Err(Fail::from("no machine"));
-    };
-    match plain.to_region(1024) {
-        Paused::At(opened) => works_at(rt, alloc, code, &opened, at, lie),
-        _ => Err(Fail::from("no region")),
-    }
-}
-
 // Each leaves 2 in the first word: two turns that are stored, two that print before they store, and two that are longer than a stretch.
-const PROGRAMS: [&[u8]; 3] = [
+static PROGRAMS: [&[u8]; 3] = [
     b"int c; int main(){ pwhile(c<2){ c=c+1; } }",
     b"int c; int main(){ pwhile(c<2){ print(c); c=c+1; } }",
     b"int c; int main(){ pwhile(c<2){ for(int i=0;i<500;i++) ; c=c+1; } }",
@@ -255,54 +223,47 @@ const PROGRAMS: [&[u8]; 3] = [
 /// More calls than a worker makes over any of them.
 const CALLS: u64 = 60;
 
-fn code_of(alloc: Global, source: &[u8]) -> Result<Executable, Fail> {
-    match executable_of(alloc, source) {
-        Ok(code) => Ok(code),
-        Err(_) => Err(Fail::from("refused")),
+// Whether that is what a worker leaves that was told so once: one that stops leaves some whole turns of one thread, and any
+// other all of them.
+fn is_right(lie: Lie, shown: Shown) -> bool {
+    let (word, is_left) = shown;
+    match lie {
+        Lie::Full | Lie::NotYet => word == 2 && is_left,
+        Lie::Squashed | Lie::Ended => word == 2 || word < 2 && !is_left,
+    }
+}
+
+// A worker over each program, lied to at each of its calls in turn.
+fn lied_to<W: Abort + Wait>(rt: &W, alloc: Global, lie: Lie) {
+    for source in &PROGRAMS {
+        let code = code_for(rt, alloc, source);
+        for at in 0..CALLS {
+            let shown = works(rt, alloc, &code, at, lie);
+            expect(rt, is_right(lie, shown), source);
+        }
     }
 }
 
 // There are fewer calls than a thousand.
 #[test]
-fn a_true_board_is_worked_to_its_end(rt: HostRuntime) -> Result<(), Fail> {
-    for source in PROGRAMS {
-        let code = code_of(rt.alloc(), source)?;
-        assert_eq!(&rt;
-            works_to_the_end(&rt, rt.alloc(), &code, 1000, Lie::Ended)?,
-            (2, true)
-        );
+fn a_true_board_is_worked_to_its_end(rt: HostRuntime) {
+    for source in &PROGRAMS {
+        let code = code_for(&rt, rt.alloc(), source);
+        let (word, is_left) = works(&rt, rt.alloc(), &code, 1000, Lie::Ended);
+        expect(&rt, word == 2 && is_left, source);
     }
-    Ok(())
 }
 
 // A worker that is told once that a table is full, or is to wait, comes to the same end.
 #[test]
-fn a_lie_loses_no_turn(rt: HostRuntime) -> Result<(), Fail> {
-    for source in PROGRAMS {
-        let code = code_of(rt.alloc(), source)?;
-        for at in 0..CALLS {
-            for lie in [Lie::Full, Lie::NotYet] {
-                assert_eq!(&rt;
-                    works_to_the_end(&rt, rt.alloc(), &code, at, lie)?,
-                    (2, true)
-                );
-            }
-        }
-    }
-    Ok(())
+fn a_lie_loses_no_turn(rt: HostRuntime) {
+    lied_to(&rt, rt.alloc(), Lie::Full);
+    lied_to(&rt, rt.alloc(), Lie::NotYet);
 }
 
 // Told that the region has ended, a worker stops, and what is committed by then is some whole turns of one thread.
 #[test]
-fn a_worker_that_stops_leaves_whole_turns(rt: HostRuntime) -> Result<(), Fail> {
-    for source in PROGRAMS {
-        let code = code_of(rt.alloc(), source)?;
-        for at in 0..CALLS {
-            for lie in [Lie::Squashed, Lie::Ended] {
-                let (word, is_left) = works_to_the_end(&rt, rt.alloc(), &code, at, lie)?;
-                assert!(&rt; word == 2 || word < 2 && !is_left);
-            }
-        }
-    }
-    Ok(())
+fn a_worker_that_stops_leaves_whole_turns(rt: HostRuntime) {
+    lied_to(&rt, rt.alloc(), Lie::Squashed);
+    lied_to(&rt, rt.alloc(), Lie::Ended);
 }

@@ -4,15 +4,13 @@
 ghost use Rattle.std.specs.Prelude.{◌≡◌, ◌<◌, length, IsTrue};
 ghost use Rattle.hx_word.specs.Entry.{EntryFits};
 
+use crate::machines::{ROOMS, boxed, code_for, expect, first_entry, frame_for, listed};
 use hx_board::{Board, Head, Headed, Job, Loaded, Settled, Started, State, Stored};
 use hx_exec::executable::Executable;
-use hx_frame::{Capacities, Frame, Stop};
-use hx_run::executable_of;
+use hx_frame::{Frame, Stop};
 use hx_word::entry::{Entry, RegionEnd};
-use hx_word::plain::{Open, Paused, Plain};
-use std::alloc::{AllocError, Global};
+use std::alloc::Global;
 use std::process::Abort;
-use std::test::Fail;
 
 /// Two loops, each turn of which prints what was counted so far. The first one comes to 3 and has printed 0, 1 and 2.
 const COUNTED: &[u8] =
@@ -26,11 +24,6 @@ const COUNTED_ON: &[u8] = b"int c; int main(){ pwhile(c<4){ print(c); c=c+1; } }
 
 /// A turn that stores what the next one has read.
 const SQUASHING: &[u8] = b"int c; int main(){ pwhile(c<3){ c=c+1; } }";
-
-const ROOMS: Capacities = Capacities {
-    marks: 512,
-    buffer: 64,
-};
 
 /// More calls than a turn makes here, and more turns than a loop has.
 const MANY: u32 = 100;
@@ -51,19 +44,11 @@ struct Committed {
     text: Vec<u8>,
 }
 
-fn copied(alloc: Global, board: &Board<'_>) -> Result<Committed, AllocError> {
+fn committed_by(rt: &impl Abort, alloc: Global, board: &Board<'_>) -> Box<Committed> {
     let (store, text, _) = board.settled();
-    Ok(Committed {
-        store: Vec::from_slice(alloc, store)?,
-        text: Vec::from_slice(alloc, text)?,
-    })
-}
-
-fn committed_by(rt: &impl Abort, alloc: Global, board: &Board<'_>) -> Committed {
-    match copied(alloc, board) {
-        Ok(committed) => committed,
-        Err(_) => panic!(rt; "no memory"),
-    }
+    let store = listed(rt, alloc, store);
+    let text = listed(rt, alloc, text);
+    boxed(rt, alloc, Committed { store, text })
 }
 
 // Whether a running board has committed just this.
@@ -100,22 +85,22 @@ fn has_word(board: &Board<'_>, word: u32) -> bool
 fn load(rt: &impl Abort, pair: &mut Pair<'_>, frame: &mut Frame<'_>, word: u32) {
     let tag = frame.tagged();
     if !has_word(&pair.board, word) {
-        panic!(rt; "no such word");
+        rt.panic("no such word");
     }
     match pair.board.load(tag.worker, tag.attempt, word) {
         Loaded::Value(value) => frame.loaded(value),
-        _ => panic!(rt; "a load is lost"),
+        _ => rt.panic("a load is lost"),
     }
 }
 
 fn store(rt: &impl Abort, pair: &mut Pair<'_>, frame: &mut Frame<'_>, word: u32, value: i32) {
     let tag = frame.tagged();
     if !has_word(&pair.board, word) {
-        panic!(rt; "no such word");
+        rt.panic("no such word");
     }
     match pair.board.store(tag.worker, tag.attempt, word, value) {
         Stored::Done => frame.stored(),
-        _ => panic!(rt; "a store is lost"),
+        _ => rt.panic("a store is lost"),
     }
 }
 
@@ -137,7 +122,7 @@ fn waits(rt: &impl Abort, pair: &mut Pair<'_>, frame: &mut Frame<'_>) {
             return;
         }
     }
-    panic!(rt; "it never waits")
+    rt.panic("it never waits")
 }
 
 // Gives a frame the worker's iteration.
@@ -146,7 +131,7 @@ fn starts(rt: &impl Abort, pair: &mut Pair<'_>, worker: u32, frame: &mut Frame<'
 {
     match pair.board.start(worker, frame) {
         Started::Go { .. } => {}
-        _ => panic!(rt; "no iteration"),
+        _ => rt.panic("no iteration"),
     }
 }
 
@@ -163,7 +148,7 @@ fn head_of(rt: &impl Abort, pair: &mut Pair<'_>, frame: &Frame<'_>) -> Head {
     let tag = frame.tagged();
     match pair.board.head(tag.worker, tag.attempt) {
         Headed::Yours(head) => head,
-        _ => panic!(rt; "no token"),
+        _ => rt.panic("no token"),
     }
 }
 
@@ -177,7 +162,7 @@ fn settles(
     match pair.board.settle(head, frame) {
         Settled::Again(again) => Some(again),
         Settled::Passed | Settled::Ended => None,
-        Settled::NotThisFrame => panic!(rt; "its own frame is refused"),
+        Settled::NotThisFrame => rt.panic("its own frame is refused"),
     }
 }
 
@@ -191,7 +176,7 @@ fn passes(rt: &impl Abort, pair: &mut Pair<'_>, frame: &mut Frame<'_>) {
         }
         waits(rt, pair, frame);
     }
-    panic!(rt; "a turn goes on")
+    rt.panic("a turn goes on")
 }
 
 // Worker 0 goes on until the loop has ended.
@@ -200,12 +185,12 @@ fn ends(rt: &impl Abort, pair: &mut Pair<'_>, frame: &mut Frame<'_>) {
         match pair.board.start(0, frame) {
             Started::Go { .. } => {}
             Started::Ended => return,
-            Started::NotThisFrame => panic!(rt; "its own frame is refused"),
+            Started::NotThisFrame => rt.panic("its own frame is refused"),
         }
         waits(rt, pair, frame);
         passes(rt, pair, frame);
     }
-    panic!(rt; "a loop goes on")
+    rt.panic("a loop goes on")
 }
 
 // ---- what must not be taken
@@ -215,10 +200,10 @@ fn refuses(rt: &impl Abort, alloc: Global, pair: &mut Pair<'_>, head: Head, fram
     let before = committed_by(rt, alloc, &pair.board);
     match pair.board.settle(head, frame) {
         Settled::NotThisFrame => {}
-        Settled::Again(_head) => panic!(rt; "it goes on"),
-        Settled::Passed | Settled::Ended => panic!(rt; "it is taken"),
+        Settled::Again(_head) => rt.panic("it goes on"),
+        Settled::Passed | Settled::Ended => rt.panic("it is taken"),
     }
-    assert!(rt; shows(&pair.board, &before));
+    expect(rt, shows(&pair.board, &before), b"it is committed");
 }
 
 // A frame gets no iteration, and nothing is committed.
@@ -226,45 +211,50 @@ fn gets_no_iteration(rt: &impl Abort, alloc: Global, pair: &mut Pair<'_>, frame:
     let before = committed_by(rt, alloc, &pair.board);
     match pair.board.start(0, frame) {
         Started::NotThisFrame => {}
-        _ => panic!(rt; "it is taken"),
+        _ => rt.panic("it is taken"),
     }
-    assert!(rt; shows(&pair.board, &before));
+    expect(rt, shows(&pair.board, &before), b"it is committed");
 }
 
 // No end is handed out, and the board is given back.
 fn has_no_end<'c>(rt: &impl Abort, pair: Pair<'c>, job: &Job<'_>, entry: &Entry) -> Pair<'c> {
     match pair.board.finish(job, entry) {
-        Ok(_end) => panic!(rt; "an end"),
+        Ok(_end) => rt.panic("an end"),
         Err(board) => Pair { board },
     }
 }
 
 // ---- the boards and frames of a trial
 
-fn board_for<'c>(rt: &impl Abort, alloc: Global, job: Job<'c>, entry: &Entry) -> Pair<'c>
+fn pair_for<'c>(rt: &impl Abort, alloc: Global, job: Job<'c>, entry: &Entry) -> Pair<'c>
     requires { EntryFits job.code.now job.region entry.now }
 {
     match Board::new(alloc, job, entry, 2, ROOMS) {
         Ok(board) => Pair { board },
-        Err(_) => panic!(rt; "no memory"),
+        Err(_) => rt.panic("no memory"),
     }
 }
 
-fn frame_for<'c>(rt: &impl Abort, alloc: Global, code: &'c Executable) -> Frame<'c> {
-    match Frame::new(alloc, code, ROOMS) {
-        Ok(frame) => frame,
-        Err(_) => panic!(rt; "no memory"),
-    }
+// The same in a box, where it is let go by a call.
+fn board_for<'c>(rt: &impl Abort, alloc: Global, job: Job<'c>, entry: &Entry) -> Box<Pair<'c>>
+    requires { EntryFits job.code.now job.region entry.now }
+{
+    boxed(rt, alloc, pair_for(rt, alloc, job, entry))
 }
 
-fn code_for(rt: &impl Abort, alloc: Global, source: &[u8]) -> Executable {
-    match executable_of(alloc, source) {
-        Ok(code) => code,
-        Err(_) => panic!(rt; "refused"),
-    }
+fn frame_of<'c>(rt: &impl Abort, alloc: Global, code: &'c Executable) -> Box<Frame<'c>> {
+    boxed(rt, alloc, frame_for(rt, alloc, code))
 }
 
-// One of two boards over the same code is at iteration 0 and the other at 1, and each is handed the other's token.
+// A board that goes on by `abandon` and `start`, and comes to the end of the printed loop.
+fn still_ends(rt: &impl Abort, pair: &mut Pair<'_>, frame: &mut Frame<'_>) {
+    pair.board.abandon(0);
+    ends(rt, pair, frame);
+    expect(rt, is_left(&pair.board, 3, PRINTED), b"another end");
+}
+
+// One of two boards over the same code is at iteration 0 and the other at 1, and each is handed the other's token. Both
+// come to their end.
 fn exchanged(
     rt: &impl Abort,
     alloc: Global,
@@ -281,13 +271,8 @@ fn exchanged(
     let second = head_of(rt, other, ahead);
     refuses(rt, alloc, one, second, frame);
     refuses(rt, alloc, other, first, ahead);
-}
-
-// A board that goes on by `abandon` and `start`, and comes to the end of the printed loop.
-fn still_ends(rt: &impl Abort, pair: &mut Pair<'_>, frame: &mut Frame<'_>) {
-    pair.board.abandon(0);
-    ends(rt, pair, frame);
-    assert!(rt; is_left(&pair.board, 3, PRINTED));
+    still_ends(rt, one, frame);
+    still_ends(rt, other, ahead);
 }
 
 fn two_boards(rt: &impl Abort, alloc: Global, job: Job<'_>, entry: &Entry)
@@ -295,11 +280,9 @@ fn two_boards(rt: &impl Abort, alloc: Global, job: Job<'_>, entry: &Entry)
 {
     let mut one = board_for(rt, alloc, job, entry);
     let mut other = board_for(rt, alloc, job, entry);
-    let mut frame = frame_for(rt, alloc, job.code);
-    let mut ahead = frame_for(rt, alloc, job.code);
+    let mut frame = frame_of(rt, alloc, job.code);
+    let mut ahead = frame_of(rt, alloc, job.code);
     exchanged(rt, alloc, &mut one, &mut frame, &mut other, &mut ahead);
-    still_ends(rt, &mut one, &mut frame);
-    still_ends(rt, &mut other, &mut ahead);
 }
 
 // Worker 1 has the head's iteration, and its token goes with worker 0's frame.
@@ -317,16 +300,16 @@ fn lent(
     pair.board.abandon(1);
     begins(rt, pair, 1, heads);
     passes(rt, pair, heads);
+    still_ends(rt, pair, frame);
 }
 
 fn another_worker(rt: &impl Abort, alloc: Global, job: Job<'_>, entry: &Entry)
     requires { EntryFits job.code.now job.region entry.now }
 {
     let mut pair = board_for(rt, alloc, job, entry);
-    let mut heads = frame_for(rt, alloc, job.code);
-    let mut frame = frame_for(rt, alloc, job.code);
+    let mut heads = frame_of(rt, alloc, job.code);
+    let mut frame = frame_of(rt, alloc, job.code);
     lent(rt, alloc, &mut pair, &mut heads, &mut frame);
-    still_ends(rt, &mut pair, &mut frame);
 }
 
 // What iteration 1 has read is stored by iteration 0, so it begins again.
@@ -346,7 +329,8 @@ fn mixed(
     new: &mut Frame<'_>,
 ) {
     begins(rt, pair, 1, new);
-    assert!(rt; old.tagged().attempt == 1 && new.tagged().attempt == 2);
+    expect(rt, old.tagged().attempt == 1, b"another old attempt");
+    expect(rt, new.tagged().attempt == 2, b"another new attempt");
     let head = head_of(rt, pair, new);
     refuses(rt, alloc, pair, head, old);
     pair.board.abandon(1);
@@ -354,49 +338,64 @@ fn mixed(
     passes(rt, pair, new);
 }
 
+// An attempt is squashed and begins again in another frame, and the loop comes to its end.
+fn replaced(
+    rt: &impl Abort,
+    alloc: Global,
+    pair: &mut Pair<'_>,
+    frame: &mut Frame<'_>,
+    old: &mut Frame<'_>,
+    new: &mut Frame<'_>,
+) {
+    squashed(rt, pair, frame, old);
+    mixed(rt, alloc, pair, old, new);
+    ends(rt, pair, frame);
+    expect(rt, is_left(&pair.board, 3, b""), b"another end");
+}
+
 fn squashed_attempt(rt: &impl Abort, alloc: Global, job: Job<'_>, entry: &Entry)
     requires { EntryFits job.code.now job.region entry.now }
 {
     let mut pair = board_for(rt, alloc, job, entry);
-    let mut frame = frame_for(rt, alloc, job.code);
-    let mut old = frame_for(rt, alloc, job.code);
-    let mut new = frame_for(rt, alloc, job.code);
-    squashed(rt, &mut pair, &mut frame, &mut old);
-    mixed(rt, alloc, &mut pair, &mut old, &mut new);
-    ends(rt, &mut pair, &mut frame);
-    assert!(rt; is_left(&pair.board, 3, b""));
+    let mut frame = frame_of(rt, alloc, job.code);
+    let mut old = frame_of(rt, alloc, job.code);
+    let mut new = frame_of(rt, alloc, job.code);
+    replaced(rt, alloc, &mut pair, &mut frame, &mut old, &mut new);
 }
 
-// A frame of another code gets no iteration.
+// A frame of another code gets no iteration, and one of its own goes on.
+fn foreign_first(
+    rt: &impl Abort,
+    alloc: Global,
+    pair: &mut Pair<'_>,
+    foreign: &mut Frame<'_>,
+    frame: &mut Frame<'_>,
+) {
+    gets_no_iteration(rt, alloc, pair, foreign);
+    still_ends(rt, pair, frame);
+}
+
 fn another_code(rt: &impl Abort, alloc: Global, job: Job<'_>, entry: &Entry)
     requires { EntryFits job.code.now job.region entry.now }
 {
     let code = code_for(rt, alloc, COUNTED_ON);
-    let mut foreign = frame_for(rt, alloc, &code);
-    let mut frame = frame_for(rt, alloc, job.code);
+    let mut foreign = frame_of(rt, alloc, &code);
+    let mut frame = frame_of(rt, alloc, job.code);
     let mut pair = board_for(rt, alloc, job, entry);
-    gets_no_iteration(rt, alloc, &mut pair, &mut foreign);
-    still_ends(rt, &mut pair, &mut frame);
+    foreign_first(rt, alloc, &mut pair, &mut foreign, &mut frame);
 }
 
 // The same entry but for its first word.
-fn changed(alloc: Global, entry: &Entry) -> Result<Entry, AllocError> {
-    let mut store = Vec::from_slice(alloc, &entry.store)?;
+fn another_entry(rt: &impl Abort, alloc: Global, entry: &Entry) -> Entry {
+    let mut store = listed(rt, alloc, &entry.store);
     if let Some(word) = store.first_mut() {
         *word = 1;
     }
-    Ok(Entry {
+    Entry {
         store,
-        locals: Vec::from_slice(alloc, &entry.locals)?,
+        locals: listed(rt, alloc, &entry.locals),
         depth: entry.depth,
         text_len: entry.text_len,
-    })
-}
-
-fn another_entry(rt: &impl Abort, alloc: Global, entry: &Entry) -> Entry {
-    match changed(alloc, entry) {
-        Ok(another) => another,
-        Err(_) => panic!(rt; "no memory"),
     }
 }
 
@@ -406,8 +405,8 @@ fn is_whole(end: &RegionEnd) -> bool {
 
 fn is_finished(rt: &impl Abort, pair: Pair<'_>, job: &Job<'_>, entry: &Entry) {
     match pair.board.finish(job, entry) {
-        Ok(end) => assert!(rt; is_whole(&end)),
-        Err(_) => panic!(rt; "no end"),
+        Ok(end) => expect(rt, is_whole(&end), b"another end"),
+        Err(_) => rt.panic("no end"),
     }
 }
 
@@ -420,17 +419,17 @@ fn wrong_finish(rt: &impl Abort, alloc: Global, job: Job<'_>, entry: &Entry)
         code: job.code,
         region: 1,
     };
-    let mut frame = frame_for(rt, alloc, job.code);
-    let mut pair = has_no_end(rt, board_for(rt, alloc, job, entry), &job, entry);
+    let mut frame = frame_of(rt, alloc, job.code);
+    let mut pair = has_no_end(rt, pair_for(rt, alloc, job, entry), &job, entry);
     ends(rt, &mut pair, &mut frame);
     let pair = has_no_end(rt, pair, &second, entry);
     let pair = has_no_end(rt, pair, &job, &another);
-    assert!(rt; is_left(&pair.board, 3, PRINTED));
+    expect(rt, is_left(&pair.board, 3, PRINTED), b"another end");
     is_finished(rt, pair, &job, entry);
 }
 
 /// What is tried.
-#[derive(Clone, Copy, PartialEq, Eq, Debug)]
+#[derive(Clone, Copy)]
 enum Trial {
     TwoBoards,
     AnotherWorker,
@@ -451,62 +450,38 @@ fn tries_over(rt: &impl Abort, alloc: Global, job: Job<'_>, entry: &Entry, trial
     }
 }
 
-// The same at a region that has opened.
-fn tries_at(
-    rt: &impl Abort,
-    alloc: Global,
-    code: &Executable,
-    opened: &Open<'_>,
-    trial: Trial,
-) -> Result<(), Fail>
-    requires { opened.now.code ≡ code.now }
-{
-    let entry = opened.entry(alloc)?;
+// The same at the first region of a source.
+fn tries(rt: &impl Abort, alloc: Global, source: &[u8], trial: Trial) {
+    let code = code_for(rt, alloc, source);
+    let (region, entry) = first_entry(rt, alloc, &code);
     let job = Job {
-        code,
-        region: opened.region(),
+        code: &code,
+        region,
     };
     tries_over(rt, alloc, job, &entry, trial);
-    Ok(())
-}
-
-// The first region of a code.
-fn tries_of(rt: &impl Abort, alloc: Global, code: &Executable, trial: Trial) -> Result<(), Fail> {
-    let Ok(plain) = Plain::new(alloc, code, &[]) else {
-        return Err(Fail::from("no machine"));
-    };
-    match plain.to_region(1024) {
-        Paused::At(opened) => tries_at(rt, alloc, code, &opened, trial),
-        _ => Err(Fail::from("no region")),
-    }
-}
-
-fn tries(rt: &impl Abort, alloc: Global, source: &[u8], trial: Trial) -> Result<(), Fail> {
-    let code = code_for(rt, alloc, source);
-    tries_of(rt, alloc, &code, trial)
 }
 
 #[test]
-fn boards_refuse_each_others_tokens(rt: HostRuntime) -> Result<(), Fail> {
-    tries(&rt, rt.alloc(), COUNTED, Trial::TwoBoards)
+fn boards_refuse_each_others_tokens(rt: HostRuntime) {
+    tries(&rt, rt.alloc(), COUNTED, Trial::TwoBoards);
 }
 
 #[test]
-fn a_token_goes_with_no_frame_of_another_worker(rt: HostRuntime) -> Result<(), Fail> {
-    tries(&rt, rt.alloc(), COUNTED, Trial::AnotherWorker)
+fn a_token_goes_with_no_frame_of_another_worker(rt: HostRuntime) {
+    tries(&rt, rt.alloc(), COUNTED, Trial::AnotherWorker);
 }
 
 #[test]
-fn a_squashed_attempt_is_not_settled(rt: HostRuntime) -> Result<(), Fail> {
-    tries(&rt, rt.alloc(), SQUASHING, Trial::SquashedAttempt)
+fn a_squashed_attempt_is_not_settled(rt: HostRuntime) {
+    tries(&rt, rt.alloc(), SQUASHING, Trial::SquashedAttempt);
 }
 
 #[test]
-fn a_frame_of_another_code_gets_no_iteration(rt: HostRuntime) -> Result<(), Fail> {
-    tries(&rt, rt.alloc(), COUNTED, Trial::AnotherCode)
+fn a_frame_of_another_code_gets_no_iteration(rt: HostRuntime) {
+    tries(&rt, rt.alloc(), COUNTED, Trial::AnotherCode);
 }
 
 #[test]
-fn an_end_is_for_its_own_job_and_entry(rt: HostRuntime) -> Result<(), Fail> {
-    tries(&rt, rt.alloc(), COUNTED, Trial::WrongFinish)
+fn an_end_is_for_its_own_job_and_entry(rt: HostRuntime) {
+    tries(&rt, rt.alloc(), COUNTED, Trial::WrongFinish);
 }

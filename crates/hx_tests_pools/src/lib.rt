@@ -6,6 +6,8 @@ mod fakes;
 #[cfg(test)]
 mod forged;
 #[cfg(test)]
+mod machines;
+#[cfg(test)]
 mod passing;
 #[cfg(test)]
 mod pools;

@@ -1,111 +1,131 @@
 // The plain machine by its own calls: where regions open, a region by itself, and the run behind it.
 
-ghost use Rattle.std.specs.Prelude.{◌≡◌, IfOk};
-ghost use Rattle.hx_word.specs.Entry.{EndFits};
+ghost use Rattle.std.specs.Prelude.{◌≡◌, length};
+ghost use Rattle.hx_word.specs.Entry.{EndFits, EndLasts, privates_in};
+ghost use Rattle.hx_word.specs.Plain.{one_store};
 
+use crate::machines::{Wanted, code_for, entry_for, expect, machine_for, opened_within, run_on};
 use hx_code::word::Exit;
 use hx_exec::executable::Executable;
-use hx_run::executable_of;
 use hx_tree::outcome::End;
-use hx_word::entry::RegionEnd;
-use hx_word::plain::{Open, Paused, Plain, PlainError, Ran, Reached};
+use hx_word::entry::{Entry, RegionEnd};
+use hx_word::plain::{Open, Paused, Plain, PlainError, Reached};
 use hx_word::region_run::RegionRun;
 use std::alloc::Global;
-use std::test::Fail;
+use std::process::Abort;
 
-// The code of two turns: the first word opens the region, each turn takes nine and `leave` after the last test
-// five, and then `const 0` and `ret` are left.
-fn two_turns(alloc: Global) -> Result<Executable, Fail> {
-    match executable_of(alloc, b"int c; int main(){ pwhile(c<2){ c=c+1; } }") {
-        Ok(code) => Ok(code),
-        Err(_) => Err(Fail::from("refused")),
+// More words than a region here has.
+const AMPLE: u64 = 1000;
+
+// Two turns: the first word opens the region, each turn takes nine and `leave` after the last test five, and then
+// `const 0` and `ret` are left.
+const TWO_TURNS: &[u8] = b"int c; int main(){ pwhile(c<2){ c=c+1; } }";
+
+// How a search for a region comes out: at it, ended before, or neither; and the entry's words in the store, private words,
+// depth and printed bytes.
+type Found = (u8, [usize; 4]);
+
+fn found(reached: &Reached) -> Found {
+    match reached {
+        Reached::At(_, entry) => (0, sizes(entry)),
+        Reached::Ended => (1, [0; 4]),
+        Reached::More => (2, [0; 4]),
     }
 }
 
-// How a search for the n-th region comes out: 0 at it, 1 ended before, 2 neither; and the entry's words in the
-// store, private words, depth and printed bytes.
-fn search(alloc: Global, code: &Executable, n: u64, steps: u64) -> Result<(u8, [usize; 4]), Fail> {
-    let Ok(plain) = Plain::new(alloc, code, &[]) else {
-        return Err(Fail::from("no machine"));
-    };
+fn sizes(entry: &Entry) -> [usize; 4] {
+    [
+        entry.store.len(),
+        entry.locals.len(),
+        entry.depth,
+        entry.text_len,
+    ]
+}
+
+// A search for the n-th region, counted from 1, within so many words.
+fn search(rt: &impl Abort, alloc: Global, code: &Executable, n: u64, steps: u64) -> Found {
     if n == 0 {
-        return Err(Fail::from("regions are counted from 1"));
+        rt.panic("regions are counted from 1")
     }
-    match plain.entry_at(alloc, n, steps)? {
-        Reached::At(_, entry) => Ok((
-            0,
-            [
-                entry.store.len(),
-                entry.locals.len(),
-                entry.depth,
-                entry.text_len,
-            ],
-        )),
-        Reached::Ended => Ok((1, [0; 4])),
-        Reached::More => Ok((2, [0; 4])),
+    match machine_for(rt, alloc, code).entry_at(alloc, n, steps) {
+        Ok(reached) => found(&reached),
+        Err(_) => rt.panic("no memory for an entry"),
     }
 }
+
+// The number of a region, so many words, and what a search comes to.
+static SEARCHES: [(u64, u64, Found); 4] = [
+    (2, 26, (1, [0; 4])),
+    (2, 25, (2, [0; 4])),
+    (1, 0, (2, [0; 4])),
+    (1, 1, (0, [65, 0, 1, 0])),
+];
 
 #[test]
-fn entries_of_two_turns(rt: HostRuntime) -> Result<(), Fail> {
-    let code = two_turns(rt.alloc())?;
-    let rows = [
-        (2, 26, 1, [0; 4]),
-        (2, 25, 2, [0; 4]),
-        (1, 0, 2, [0; 4]),
-        (1, 1, 0, [65, 0, 1, 0]),
-    ];
-    for (n, steps, found, entry) in rows {
-        assert_eq!(rt; search(rt.alloc(), &code, n, steps)?, (found, entry));
+fn entries_of_two_turns(rt: HostRuntime) {
+    let code = code_for(&rt, rt.alloc(), TWO_TURNS);
+    for (n, steps, wanted) in &SEARCHES {
+        let is_found = search(&rt, rt.alloc(), &code, *n, *steps) == *wanted;
+        expect(&rt, is_found, b"another entry");
     }
-    Ok(())
 }
 
-// What is told of a region that has ended: the exit, the words of its store, private words and printed bytes, and its
-// regions and turns.
-type RegionTold = (Exit, [usize; 3], [u64; 2]);
-
-// The end of the region that opened, run by itself: it goes on after so many words, and ends with one
-// more.
-fn by_itself(alloc: Global, code: &Executable, at: &Open, steps: u64) -> Result<RegionTold, Fail>
+// The region that opened, by itself as its first iteration begins.
+fn run_of<'c>(rt: &impl Abort, alloc: Global, code: &'c Executable, at: &Open<'_>) -> RegionRun<'c>
     requires { at.now.code ≡ code.now }
+    ensures code { result.code ≡ at.now.code }
+    ensures locals { result.locals ≡ privates_in at.now.code at.now.region.opened.region }
+    ensures printed { result.state.opened.printed ≡ length at.now.outer.text }
 {
-    let entry = at.entry(alloc)?;
-    let mut run = RegionRun::new(alloc, code, at.region(), &entry)?;
-    if run.run(steps) {
-        return Err(Fail::from("the region has ended"));
+    let entry = entry_for(rt, alloc, at);
+    match RegionRun::new(alloc, code, at.region(), &entry) {
+        Ok(run) => run,
+        Err(_) => rt.panic("no memory for a region"),
     }
-    let Err(mut run) = run.end() else {
-        return Err(Fail::from("the region has an end"));
-    };
-    let _ended = run.run(1);
-    let Ok(end) = run.end() else {
-        return Err(Fail::from("the region goes on"));
-    };
-    Ok((
-        end.exit,
-        [end.store.len(), end.locals.len(), end.text.len()],
-        [end.counts.regions, end.counts.turns],
-    ))
 }
 
-// The first region of a code, run by itself.
-fn first_region(alloc: Global, code: &Executable, steps: u64) -> Result<RegionTold, Fail> {
-    let Ok(plain) = Plain::new(alloc, code, &[]) else {
-        return Err(Fail::from("no machine"));
-    };
-    match plain.to_region(1) {
-        Paused::At(open) => by_itself(alloc, code, &open, steps),
-        _ => Err(Fail::from("no region")),
+// The region that has ended.
+fn ended(rt: &impl Abort, run: RegionRun<'_>) -> RegionEnd
+    ensures { EndLasts run.entry.code run.entry.state run.entry.locals result }
+{
+    match run.end() {
+        Ok(end) => end,
+        Err(_) => rt.panic("the region goes on"),
     }
+}
+
+// The region that goes on.
+fn going_on<'c>(rt: &impl Abort, run: RegionRun<'c>) -> RegionRun<'c> {
+    match run.end() {
+        Ok(_) => rt.panic("the region has an end"),
+        Err(run) => run,
+    }
+}
+
+// Whether a region has left its loop with 65 words, no private ones and nothing printed, after two turns.
+fn is_two_turns(end: &RegionEnd) -> bool {
+    let sizes = [end.store.len(), end.locals.len(), end.text.len()];
+    let counts = [end.counts.regions, end.counts.turns];
+    end.exit == Exit::Left && sizes == [65, 0, 0] && counts == [1, 2]
+}
+
+// The first region of a code, run by itself: it goes on after so many words, and ends with one more.
+fn ends_with_one_more(rt: &impl Abort, alloc: Global, code: &Executable, steps: u64) -> bool {
+    let opened = opened_within(rt, alloc, code, 1);
+    let mut run = run_of(rt, alloc, code, &opened);
+    if run.run(steps) {
+        rt.panic("the region has ended")
+    }
+    let mut run = going_on(rt, run);
+    let _ended = run.run(1);
+    is_two_turns(&ended(rt, run))
 }
 
 #[test]
-fn a_region_runs_by_itself(rt: HostRuntime) -> Result<(), Fail> {
-    let code = two_turns(rt.alloc())?;
-    let wanted = (Exit::Left, [65, 0, 0], [1, 2]);
-    assert_eq!(rt; first_region(rt.alloc(), &code, 22)?, wanted);
-    Ok(())
+fn a_region_runs_by_itself(rt: HostRuntime) {
+    let code = code_for(&rt, rt.alloc(), TWO_TURNS);
+    let is_right = ends_with_one_more(&rt, rt.alloc(), &code, 22);
+    expect(&rt, is_right, b"another end of the region");
 }
 
 // The region that the machine opens with its first word, asked for in two goes.
@@ -120,72 +140,83 @@ fn region_of_the_second_go(plain: Plain<'_>) -> Option<u32> {
 }
 
 #[test]
-fn a_region_past_the_words_is_not_reached(rt: HostRuntime) -> Result<(), Fail> {
-    let code = two_turns(rt.alloc())?;
-    let Ok(plain) = Plain::new(rt.alloc(), &code, &[]) else {
-        return Err(Fail::from("no machine"));
-    };
-    assert_eq!(rt; region_of_the_second_go(plain), Some(0));
-    Ok(())
+fn a_region_past_the_words_is_not_reached(rt: HostRuntime) {
+    let code = code_for(&rt, rt.alloc(), TWO_TURNS);
+    let region = region_of_the_second_go(machine_for(&rt, rt.alloc(), &code));
+    expect(&rt, region == Some(0), b"another region");
 }
 
 // The input is one word longer than its array, and there is no array.
 #[test]
-fn input_without_its_array_is_refused(rt: HostRuntime) -> Result<(), Fail> {
-    let code = two_turns(rt.alloc())?;
+fn input_without_its_array_is_refused(rt: HostRuntime) {
+    let code = code_for(&rt, rt.alloc(), TWO_TURNS);
     let refusal = Plain::new(rt.alloc(), &code, &[1]).err();
-    assert_eq!(rt; refusal, Some(PlainError::InputUnfit));
-    Ok(())
+    expect(
+        &rt,
+        refusal == Some(PlainError::InputUnfit),
+        b"another refusal",
+    );
 }
 
-// What is told of a run that has ended: its end, its first global, and its regions and turns.
-type Told = (End, Option<i32>, [u64; 2]);
-
-/// The end of the region that opened, run by itself.
-pub(crate) fn end_of(alloc: Global, code: &Executable, at: &Open) -> Result<RegionEnd, Fail>
+/// How many words the region that opened has, one after another.
+pub(crate) fn words_within(rt: &impl Abort, alloc: Global, code: &Executable, at: &Open<'_>) -> u64
     requires { at.now.code ≡ code.now }
-    ensures { IfOk result (λ end. EndFits at.now.code at.now.region.opened at.now.outer.text end) }
 {
-    let entry = at.entry(alloc)?;
-    let mut run = RegionRun::new(alloc, code, at.region(), &entry)?;
-    let _ended = run.run(1000);
-    match run.end() {
-        Ok(end) => Ok(end),
-        Err(_) => Err(Fail::from("the region goes on")),
+    let mut run = run_of(rt, alloc, code, at);
+    for words in 1..AMPLE {
+        if run.run(1) {
+            return words;
+        }
     }
+    rt.panic("the region goes on")
 }
 
-// The run behind the region that opened, once that has ended by itself: so many words of it.
-fn behind(alloc: Global, code: &Executable, at: Open, steps: u64) -> Result<Option<Told>, Fail>
+// The end of the region that opened, run by itself.
+fn end_of(rt: &impl Abort, alloc: Global, code: &Executable, at: &Open<'_>) -> RegionEnd
+    requires { at.now.code ≡ code.now }
+    ensures { EndFits at.now.code at.now.region.opened at.now.outer.text result }
+{
+    let mut run = run_of(rt, alloc, code, at);
+    let _ended = run.run(AMPLE);
+    ended(rt, run)
+}
+
+/// The machine behind the region that opened, once that has ended by itself.
+pub(crate) fn behind<'c>(
+    rt: &impl Abort,
+    alloc: Global,
+    code: &Executable,
+    at: Open<'c>,
+) -> Plain<'c>
     requires { at.code ≡ code.now }
+    ensures code { result.code ≡ code.now }
+    ensures one { one_store result.machine ≡ result.machine }
 {
-    let end = end_of(alloc, code, &at)?;
-    match at.resume(&end).run(steps) {
-        Ran::Ended(outcome, counts) => Ok(Some((
-            outcome.end,
-            outcome.globals.first().copied(),
-            [counts.regions, counts.turns],
-        ))),
-        Ran::More(_) => Ok(None),
-    }
+    let end = end_of(rt, alloc, code, &at);
+    at.resume(&end)
 }
 
-// Behind the first region of a code.
-fn behind_the_first(alloc: Global, code: &Executable, steps: u64) -> Result<Option<Told>, Fail> {
-    let Ok(plain) = Plain::new(alloc, code, &[]) else {
-        return Err(Fail::from("no machine"));
-    };
-    match plain.to_region(1) {
-        Paused::At(at) => behind(alloc, code, at, steps),
-        _ => Err(Fail::from("no region")),
-    }
+// What the two turns come to.
+static TWO_COUNTED: Wanted = Wanted {
+    end: End::Normal(0),
+    globals: &[2],
+    text: b"",
+    regions: 1,
+    turns: 2,
+};
+
+// Whether the run behind the first region ends within so many words.
+fn ends_behind(rt: &impl Abort, alloc: Global, code: &Executable, steps: u64) -> bool {
+    let opened = opened_within(rt, alloc, code, 1);
+    let plain = behind(rt, alloc, code, opened);
+    run_on(rt, plain, steps, &TWO_COUNTED).is_none()
 }
 
 #[test]
-fn a_run_goes_on_behind_its_region(rt: HostRuntime) -> Result<(), Fail> {
-    let code = two_turns(rt.alloc())?;
-    assert_eq!(rt; behind_the_first(rt.alloc(), &code, 1)?, None);
-    let wanted = (End::Normal(0), Some(2), [1, 2]);
-    assert_eq!(rt; behind_the_first(rt.alloc(), &code, 2)?, Some(wanted));
-    Ok(())
+fn a_run_goes_on_behind_its_region(rt: HostRuntime) {
+    let code = code_for(&rt, rt.alloc(), TWO_TURNS);
+    let has_ended = ends_behind(&rt, rt.alloc(), &code, 1);
+    expect(&rt, !has_ended, b"it ends too early");
+    let has_ended = ends_behind(&rt, rt.alloc(), &code, 2);
+    expect(&rt, has_ended, b"it goes on");
 }

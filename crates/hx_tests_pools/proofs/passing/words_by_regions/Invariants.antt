@@ -5,4 +5,4 @@ use Rattle.hx_word.specs.Plain.{one_store}
 use Rattle.hx_tests_pools.proofs.passing.words_by_regions.Given as goal
 
 abbrev pub invariant-loop : goal.invariant-loop
-invariant-loop l = (l.plain.code ≡ l.code) × (m : Machine) × (one_store m ≡ l.plain.machine)
+invariant-loop g l = (l.plain.code ≡ l.code) × (m : Machine) × (one_store m ≡ l.plain.machine)
