@@ -6,25 +6,31 @@ use hx_instruction::instruction::Instruction;
 use std::alloc::Global;
 use std::process::Abort;
 
-// How many instructions a code has, and how many words in it go by themselves.
-fn counted_in(code: &Executable) -> (usize, usize) {
+// How many instructions a code has, how many words in it go by themselves, and how many instructions are jumps ahead.
+fn counted_in(code: &Executable) -> [usize; 3] {
     let lines = code.listing().lines;
-    let stops = lines
-        .iter()
-        .filter(|line| matches!(line.instruction, Instruction::Stop))
-        .count();
-    (lines.len() - stops, stops)
+    let mut stops = 0;
+    let mut jumps = 0;
+    for line in lines {
+        match line.instruction {
+            Instruction::Stop => stops += 1,
+            Instruction::Forward(_, _, _) => jumps += 1,
+            _ => {}
+        }
+    }
+    [lines.len() - stops, stops, jumps]
 }
 
 // The same of the code of a source.
-fn counted(alloc: Global, source: &[u8]) -> Option<(usize, usize)> {
+fn counted(alloc: Global, source: &[u8]) -> Option<[usize; 3]> {
     let code = compile(alloc, source).ok()?;
     let code = executable(alloc, code).ok()?;
     Some(counted_in(&code))
 }
 
 fn are(rt: &impl Abort, alloc: Global, source: &[u8], instructions: usize) {
-    assert_eq!(rt; counted(alloc, source), Some((instructions, 1)));
+    let [found, stops, _] = counted(alloc, source).unwrap_or([0; 3]);
+    assert_eq!(rt; (found, stops), (instructions, 1));
 }
 
 // The 21 words of this main are nine instructions, and none goes by itself: what stops is the end behind them.
@@ -109,7 +115,16 @@ const TESTS: [&[u8]; 3] = [
 #[test]
 fn tests_and_their_values_have_instructions(rt: HostRuntime) {
     for source in &TESTS {
-        let stops = counted(rt.alloc(), source).map(|(_, stops)| stops);
-        assert_eq!(rt; stops, Some(1));
+        let [_, stops, _] = counted(rt.alloc(), source).unwrap_or([0; 3]);
+        assert_eq!(rt; stops, 1);
     }
+}
+
+// The end of the loop goes back to its test, which the jump past `else` does at once; past the second one there is no loop's end.
+#[test]
+fn a_jump_to_the_end_of_a_loop_goes_back_at_once(rt: HostRuntime) {
+    let source =
+        b"int main(){ int s=0; for(int i=0;i<9;i++){ if(i>4) s=s+i; else s=s-i; } if(s>2) s=1; else s=0; return s; }";
+    let [_, stops, jumps] = counted(rt.alloc(), source).unwrap_or([0; 3]);
+    assert_eq!(rt; (stops, jumps), (1, 1));
 }
