@@ -1,4 +1,4 @@
-use Rattle.std.proofs.Common.{subst}
+use Rattle.std.proofs.Common.{rules, subst}
 use Rattle.hx_tree.specs.Tree.{Program}
 use Rattle.hx_run.specs.declared.executing.Mode.TheVariants.{Plain}
 use Rattle.hx_run.specs.Sources.{IsSourceOf}
@@ -23,3 +23,6 @@ returns-in-Ended-clause-refused g c =
     let in_time = subst (λ bytes. EndsWithin bytes c.args.input.now c.args.steps c.in-Ended.finish) c.as_slice.ensures.value ended.1 in
     let refused = subst (λ bytes. IfErr c.show.result (λ e. (p : Program) → IsSourceOf bytes p → RefusesToShow c.args.tail p c.in-Ended.finish (g.K.ByteSink.written c.args.out.now) (g.K.ByteSink.written c.show.new.out) e)) c.as_slice-in-Ended.ensures.value c.show.ensures.refused in
     refused_if_err (Plain c.args.steps c.args.tail) c.args.input.now _ _ _ _ c.in_ok-bytes.bytes.items c.in-Ended.finish c.show.result c.in_ok-bytes.ensures.bytes finish in_time refused
+
+pub returns-clause-done : goal.returns-clause-done
+returns-clause-done g c = search rules

@@ -1,9 +1,12 @@
-use Rattle.std.proofs.Common.{sym, subst, refl}
+use Rattle.std.proofs.Common.{rules, sym, subst, refl}
 use Rattle.hx_code.specs.Code.{CodeView}
 use Rattle.hx_code.specs.Valid.{IsValid}
 use Rattle.hx_board.specs.Ends.{EndsPlainly}
 use Rattle.hx_run.proofs.Behind.{end_fits, is_behind}
 use Rattle.hx_run.proofs.passing.pass_region.Goals as goal
+
+pub region-requires-2-clause-code : goal.region-requires-2-clause-code
+region-requires-2-clause-code g c = search rules
 
 pub resume-requires : goal.resume-requires
 resume-requires g c =
