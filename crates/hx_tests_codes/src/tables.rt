@@ -9,15 +9,14 @@ use std::process::Abort;
 // How many instructions a code has, how many words in it go by themselves, and how many instructions are jumps ahead.
 fn counted_in(code: &Executable) -> [usize; 3] {
     let lines = code.listing().lines;
-    let mut stops = 0;
-    let mut jumps = 0;
-    for line in lines {
-        match line.instruction {
-            Instruction::Stop => stops += 1,
-            Instruction::Forward(_, _, _) => jumps += 1,
-            _ => {}
-        }
-    }
+    let stops = lines
+        .iter()
+        .filter(|line| matches!(line.instruction, Instruction::Stop))
+        .count();
+    let jumps = lines
+        .iter()
+        .filter(|line| matches!(line.instruction, Instruction::Forward(_, _, _)))
+        .count();
     [lines.len() - stops, stops, jumps]
 }
 
