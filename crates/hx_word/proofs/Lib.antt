@@ -1,6 +1,7 @@
 pub mod Regions
 pub mod RegionSteps
 pub mod MachineSteps
+pub mod Leading
 pub mod Asking
 pub mod Behind
 pub mod Inside

@@ -1,4 +1,5 @@
 pub mod Opening
+pub mod Passing
 pub mod Running
 pub mod Plain
 pub mod Ran

@@ -5,6 +5,7 @@
 pub mod entry;
 mod iterations;
 pub mod laws;
+mod loops;
 pub mod opened;
 mod opening;
 mod passing;
