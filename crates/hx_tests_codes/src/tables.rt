@@ -127,3 +127,35 @@ fn a_jump_to_the_end_of_a_loop_goes_back_at_once(rt: HostRuntime) {
     let [_, stops, jumps] = counted(rt.alloc(), source).unwrap_or([0; 3]);
     assert_eq!(rt; (stops, jumps), (1, 1));
 }
+
+// Two instructions of the code of a source.
+fn both_of(alloc: Global, source: &[u8], first: usize, second: usize) -> Option<[Instruction; 2]> {
+    let code = compile(alloc, source).ok()?;
+    let code = executable(alloc, code).ok()?;
+    let lines = code.listing().lines;
+    Some([
+        lines.get(first)?.instruction,
+        lines.get(second)?.instruction,
+    ])
+}
+
+// The end of the inner loop is nine words from place 18 on, with its test. It goes back to the one at 14, which is 13 words less, or out to
+// the one at 23, which is 4 less. That is the end of the outer loop: nine words, back to 8 or out to 28.
+#[test]
+fn the_end_of_a_loop_leads_out_at_once(rt: HostRuntime) {
+    let source =
+        b"int main(){ int s=0; for(int i=0;i<9;i++){ for(int j=0;j<5;j++) s=s+j; } return s; }";
+    let [inner, outer] = both_of(rt.alloc(), source, 6, 8).unwrap_or([Instruction::Stop; 2]);
+    assert!(rt;
+        matches!(
+            inner,
+            Instruction::StepBackIfLessNumber(2, 1, 2, 5, 5, 13, 8, 4)
+        )
+    );
+    assert!(rt;
+        matches!(
+            outer,
+            Instruction::StepBackIfLessNumber(1, 1, 1, 9, 3, 24, 10, 4)
+        )
+    );
+}
