@@ -153,10 +153,10 @@ fn a_call_that_calls_goes_on_above(rt: HostRuntime) -> Result<(), Fail> {
     hops(&rt, rt.alloc(), &ABOVE, true, wanted)
 }
 
-// A word, and then the call, which is above.
+// A word, and then a call, before which it stays.
 #[test]
-fn a_hop_without_calls_stops_at_one(rt: HostRuntime) -> Result<(), Fail> {
-    let wanted = (999, Some(5), 2, Ask::Returns(11));
+fn words_of_the_only_call_stop_before_a_call(rt: HostRuntime) -> Result<(), Fail> {
+    let wanted = (999, None, 1, Ask::Returns(11));
     hops(&rt, rt.alloc(), &TWICE, false, wanted)
 }
 
