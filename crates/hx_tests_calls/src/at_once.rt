@@ -88,6 +88,30 @@ static ABOVE: Plan<'static> = Plan {
     opening: &[],
 };
 
+// 5 * 2 * 3, where the last product is a call's too, which calls for the first; it isn't done by the instruction that returns.
+static BEHIND: Plan<'static> = Plan {
+    lines: &[
+        (Word::Const(5), 0),
+        (Word::Call(1, HERE), 1),
+        (Word::Ret, 1),
+        (Word::Priv(0), 0),
+        (Word::Call(2, HERE), 1),
+        (Word::Const(3), 1),
+        (Word::Binary(Operator::Mul, HERE), 2),
+        (Word::Ret, 1),
+        (Word::Priv(0), 0),
+        (Word::Const(2), 1),
+        (Word::Binary(Operator::Mul, HERE), 2),
+        (Word::Ret, 1),
+    ],
+    changes: &[],
+    functions: &[MAIN, FROM_THREE, FROM_EIGHT],
+    main: 0,
+    region: None,
+    globals: 0,
+    opening: &[],
+};
+
 // A number alone.
 static NONE: Plan<'static> = Plan {
     lines: &[(Word::Const(5), 0), (Word::Ret, 1)],
@@ -149,7 +173,14 @@ fn a_call_returns_within_a_hop(rt: HostRuntime) -> Result<(), Fail> {
 // Seven words, and then the return of the second call to the first, which goes on above `main`.
 #[test]
 fn a_call_that_calls_goes_on_above(rt: HostRuntime) -> Result<(), Fail> {
-    let wanted = (993, Some(5), 2, Ask::Returns(11));
+    let wanted = (993, Some(5), 2, Ask::Returns(30));
+    hops(&rt, rt.alloc(), &BEHIND, true, wanted)
+}
+
+// Seven words, the return of the second call, the sum in the first, and then its return to `main`.
+#[test]
+fn a_value_goes_on_through_the_call_below(rt: HostRuntime) -> Result<(), Fail> {
+    let wanted = (990, Some(2), 1, Ask::Returns(11));
     hops(&rt, rt.alloc(), &ABOVE, true, wanted)
 }
 

@@ -8,7 +8,7 @@ fn programs_hold(rt: HostRuntime) {
     all_hold(&rt, rt.alloc(), &PROGRAMS);
 }
 
-const PROGRAMS: [Program<'static>; 16] = [
+const PROGRAMS: [Program<'static>; 17] = [
     Program {
         name: "forms/returns/called_depth_2",
         source: br"// A function returns out of a `while` in its `pfor`.
@@ -353,6 +353,94 @@ int main() {
         text: b"100\n103\n200\n300\n22\n",
         returned: 0,
         turns: Some(8),
+    },
+    Program {
+        name: "forms/returns/through_calls",
+        source: br"// Values that return through many calls at once: a call's own value, a number, a sum, a sum with a number, a product; and others behind
+// which a function still does something.
+int deepest;
+int shares[8];
+
+int same(int n) {
+  if (n == 0) {
+    return 7;
+  }
+  return same(n - 1);
+}
+
+int sum(int n) {
+  if (n == 0) {
+    return 0;
+  }
+  return n + sum(n - 1);
+}
+
+int count(int n) {
+  if (n == 0) {
+    return 0;
+  }
+  return count(n - 1) + 1;
+}
+
+int product(int n) {
+  if (n == 0) {
+    return 1;
+  }
+  return n * product(n - 1);
+}
+
+int noted(int n) {
+  if (n == 0) {
+    return 0;
+  }
+  int below = noted(n - 1);
+  deepest = deepest + n;
+  return below + deepest;
+}
+
+int odd_or_even(int n, int odd) {
+  if (n == 0) {
+    return odd;
+  }
+  if (odd) {
+    return odd_or_even(n - 1, 0);
+  }
+  return odd_or_even(n - 1, 1) + 0;
+}
+
+int common(int x, int y) {
+  if (y == 0) {
+    return x;
+  }
+  return common(y, x % y);
+}
+
+int main() {
+  int s = 0;
+  for (int n = 0; n < 61; n = n + 20) {
+    print(same(n));
+    print(sum(n));
+    print(count(n));
+    print(odd_or_even(n, 0));
+  }
+  print(product(12));
+  print(noted(9));
+  print(deepest);
+  pfor (int i = 0; i < 8; i++) {
+    shares[i] = common(360, i * 15 + 1) + sum(i);
+    s = s + count(i) + common(i * 6, 84);
+  }
+  for (int i = 0; i < 8; i++) {
+    print(shares[i]);
+  }
+  print(s);
+  return sum(10) + same(3);
+}
+",
+        input: b"",
+        text: b"7\n0\n0\n0\n7\n210\n20\n0\n7\n820\n40\n0\n7\n1830\n60\n0\n479001600\n165\n45\n1\n9\n4\n8\n11\n19\n22\n30\n208\n",
+        returned: 62,
+        turns: None,
     },
     Program {
         name: "forms/returns/value_of_call",
