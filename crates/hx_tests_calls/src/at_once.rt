@@ -3,7 +3,7 @@
 ghost use Rattle.std.specs.Prelude.{◌≡◌};
 ghost use Rattle.hx_code.specs.Fits.{FitsLocal};
 
-use crate::calls::hop;
+use crate::calls::{Within, hop};
 use crate::codes::{Function, HERE, Plan, executable};
 use hx_code::word::{Ask, Word};
 use hx_exec::Answer;
@@ -32,6 +32,20 @@ const FROM_FIVE: Function = Function {
 const FROM_THREE: Function = Function {
     number: 1,
     entry: 3,
+    parameters: 1,
+    privates: 1,
+};
+
+const FROM_SIX: Function = Function {
+    number: 2,
+    entry: 6,
+    parameters: 1,
+    privates: 1,
+};
+
+const FROM_NINE: Function = Function {
+    number: 3,
+    entry: 9,
     parameters: 1,
     privates: 1,
 };
@@ -112,6 +126,29 @@ static BEHIND: Plan<'static> = Plan {
     opening: &[],
 };
 
+// 7, which each of three functions has from the next.
+static HIGHER: Plan<'static> = Plan {
+    lines: &[
+        (Word::Const(7), 0),
+        (Word::Call(1, HERE), 1),
+        (Word::Ret, 1),
+        (Word::Priv(0), 0),
+        (Word::Call(2, HERE), 1),
+        (Word::Ret, 1),
+        (Word::Priv(0), 0),
+        (Word::Call(3, HERE), 1),
+        (Word::Ret, 1),
+        (Word::Priv(0), 0),
+        (Word::Ret, 1),
+    ],
+    changes: &[],
+    functions: &[MAIN, FROM_THREE, FROM_SIX, FROM_NINE],
+    main: 0,
+    region: None,
+    globals: 0,
+    opening: &[],
+};
+
 // A number alone.
 static NONE: Plan<'static> = Plan {
     lines: &[(Word::Const(5), 0), (Word::Ret, 1)],
@@ -127,11 +164,11 @@ static NONE: Plan<'static> = Plan {
 // a stretch from there asks.
 type Hopped = (u64, Option<u32>, usize, Ask);
 
-fn hopped_on(code: &Executable, calls: &mut Local, at_once: bool) -> Result<Hopped, Fail>
+fn hopped_on(code: &Executable, calls: &mut Local, within: Within) -> Result<Hopped, Fail>
     requires fits { FitsLocal code.now calls.old }
     requires all { calls.old.below ≡ 0 }
 {
-    let ran = hop(code, calls, at_once)?;
+    let ran = hop(code, calls, within)?;
     let place = match ran.answer {
         Answer::Stays => None,
         _ => Some(ran.place),
@@ -141,24 +178,24 @@ fn hopped_on(code: &Executable, calls: &mut Local, at_once: bool) -> Result<Hopp
     Ok((ran.over, place, deep, done.ask))
 }
 
-fn hopped_in(alloc: Global, code: &Executable, at_once: bool) -> Result<Hopped, Fail> {
+fn hopped_in(alloc: Global, code: &Executable, within: Within) -> Result<Hopped, Fail> {
     let mut calls = Local::new(alloc, code)?;
-    hopped_on(code, &mut calls, at_once)
+    hopped_on(code, &mut calls, within)
 }
 
-fn hopped(alloc: Global, plan: &Plan<'_>, at_once: bool) -> Result<Hopped, Fail> {
+fn hopped(alloc: Global, plan: &Plan<'_>, within: Within) -> Result<Hopped, Fail> {
     let code = executable(alloc, plan)?;
-    hopped_in(alloc, &code, at_once)
+    hopped_in(alloc, &code, within)
 }
 
 fn hops(
     rt: &impl Abort,
     alloc: Global,
     plan: &Plan<'_>,
-    at_once: bool,
+    within: Within,
     wanted: Hopped,
 ) -> Result<(), Fail> {
-    let found = hopped(alloc, plan, at_once)?;
+    let found = hopped(alloc, plan, within)?;
     assert_eq!(rt; found, wanted);
     Ok(())
 }
@@ -167,33 +204,60 @@ fn hops(
 #[test]
 fn a_call_returns_within_a_hop(rt: HostRuntime) -> Result<(), Fail> {
     let wanted = (992, None, 1, Ask::Returns(11));
-    hops(&rt, rt.alloc(), &TWICE, true, wanted)
+    hops(&rt, rt.alloc(), &TWICE, Within::Calls, wanted)
 }
 
 // Seven words, and then the return of the second call to the first, which goes on above `main`.
 #[test]
 fn a_call_that_calls_goes_on_above(rt: HostRuntime) -> Result<(), Fail> {
     let wanted = (993, Some(5), 2, Ask::Returns(30));
-    hops(&rt, rt.alloc(), &BEHIND, true, wanted)
+    hops(&rt, rt.alloc(), &BEHIND, Within::Calls, wanted)
 }
 
 // Seven words, the return of the second call, the sum in the first, and then its return to `main`.
 #[test]
 fn a_value_goes_on_through_the_call_below(rt: HostRuntime) -> Result<(), Fail> {
     let wanted = (990, Some(2), 1, Ask::Returns(11));
-    hops(&rt, rt.alloc(), &ABOVE, true, wanted)
+    hops(&rt, rt.alloc(), &ABOVE, Within::Calls, wanted)
+}
+
+// Eleven words: two of `main`, two of the first call, four of the second, its return among them, and three of the first, its return the last.
+#[test]
+fn a_call_that_calls_returns_within_a_higher_hop(rt: HostRuntime) -> Result<(), Fail> {
+    let wanted = (989, None, 1, Ask::Returns(30));
+    hops(&rt, rt.alloc(), &BEHIND, Within::CallsThatCall, wanted)
+}
+
+// Seven words, three of them calls, and then the returns of the third call, the second and the first.
+#[test]
+fn a_value_of_a_third_call_goes_on_through_all(rt: HostRuntime) -> Result<(), Fail> {
+    let wanted = (991, Some(2), 1, Ask::Returns(7));
+    hops(&rt, rt.alloc(), &HIGHER, Within::CallsThatCall, wanted)
 }
 
 // A word, and then a call, before which it stays.
 #[test]
 fn words_of_the_only_call_stop_before_a_call(rt: HostRuntime) -> Result<(), Fail> {
     let wanted = (999, None, 1, Ask::Returns(11));
-    hops(&rt, rt.alloc(), &TWICE, false, wanted)
+    hops(&rt, rt.alloc(), &TWICE, Within::Nothing, wanted)
 }
 
 fn has_calls(alloc: Global, plan: &Plan<'_>) -> Result<bool, Fail> {
     let code = executable(alloc, plan)?;
     Ok(code.has_calls())
+}
+
+fn calls_higher(alloc: Global, plan: &Plan<'_>) -> Result<bool, Fail> {
+    let code = executable(alloc, plan)?;
+    Ok(code.calls_higher())
+}
+
+#[test]
+fn code_tells_whether_functions_call_others(rt: HostRuntime) -> Result<(), Fail> {
+    let behind = calls_higher(rt.alloc(), &BEHIND)?;
+    let twice = calls_higher(rt.alloc(), &TWICE)?;
+    assert_eq!(&rt; (behind, twice), (true, false));
+    Ok(())
 }
 
 #[test]
