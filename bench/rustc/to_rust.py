@@ -26,6 +26,9 @@ def without(lines, begins):
             continue
         depth += line.count("{") - line.count("}")
         inside = depth > 0
+        # the last clause of a function that has no body ends its declaration
+        if not inside and line.rstrip().endswith("};"):
+            yield ";"
 
 
 def without_ghosts(lines):

@@ -235,6 +235,13 @@ fn a_value_of_a_third_call_goes_on_through_all(rt: HostRuntime) -> Result<(), Fa
     hops(&rt, rt.alloc(), &HIGHER, Within::CallsThatCall, wanted)
 }
 
+// Ten words: two of `main`, two of each of the next two calls, two of the third, its return among them, and the returns of the others.
+#[test]
+fn a_value_of_a_third_call_goes_on_within_the_highest_hop(rt: HostRuntime) -> Result<(), Fail> {
+    let wanted = (990, None, 1, Ask::Returns(7));
+    hops(&rt, rt.alloc(), &HIGHER, Within::CallsFourDeep, wanted)
+}
+
 // A word, and then a call, before which it stays.
 #[test]
 fn words_of_the_only_call_stop_before_a_call(rt: HostRuntime) -> Result<(), Fail> {
@@ -250,6 +257,19 @@ fn has_calls(alloc: Global, plan: &Plan<'_>) -> Result<bool, Fail> {
 fn calls_higher(alloc: Global, plan: &Plan<'_>) -> Result<bool, Fail> {
     let code = executable(alloc, plan)?;
     Ok(code.calls_higher())
+}
+
+fn calls_highest(alloc: Global, plan: &Plan<'_>) -> Result<bool, Fail> {
+    let code = executable(alloc, plan)?;
+    Ok(code.calls_highest())
+}
+
+#[test]
+fn code_tells_whether_functions_call_callers(rt: HostRuntime) -> Result<(), Fail> {
+    let higher = calls_highest(rt.alloc(), &HIGHER)?;
+    let behind = calls_highest(rt.alloc(), &BEHIND)?;
+    assert_eq!(&rt; (higher, behind), (true, false));
+    Ok(())
 }
 
 #[test]
