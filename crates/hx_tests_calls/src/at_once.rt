@@ -239,7 +239,7 @@ fn a_value_of_a_third_call_goes_on_through_all(rt: HostRuntime) -> Result<(), Fa
 #[test]
 fn a_value_of_a_third_call_goes_on_within_the_highest_hop(rt: HostRuntime) -> Result<(), Fail> {
     let wanted = (990, None, 1, Ask::Returns(7));
-    hops(&rt, rt.alloc(), &HIGHER, Within::CallsFourDeep, wanted)
+    hops(&rt, rt.alloc(), &HIGHER, Within::CallsSixDeep, wanted)
 }
 
 // A word, and then a call, before which it stays.
