@@ -12,4 +12,6 @@ mod codes;
 #[cfg(test)]
 mod loops;
 #[cfg(test)]
+mod outside;
+#[cfg(test)]
 mod regions;
