@@ -7,6 +7,8 @@ mod hx_code;
 mod hx_exec;
 mod hx_instruction;
 mod hx_loops;
+mod hx_outside;
+mod hx_single;
 mod hx_table;
 mod hx_tree;
 mod hx_word;

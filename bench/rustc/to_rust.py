@@ -11,7 +11,7 @@ import re
 import shutil
 import sys
 
-CRATES = ["hx_tree", "hx_code", "hx_cells", "hx_loops", "hx_instruction", "hx_table", "hx_exec", "hx_word"]
+CRATES = ["hx_tree", "hx_code", "hx_cells", "hx_outside", "hx_loops", "hx_instruction", "hx_table", "hx_single", "hx_exec", "hx_word"]
 
 
 def without(lines, begins):

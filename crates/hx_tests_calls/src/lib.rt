@@ -15,3 +15,5 @@ mod loops;
 mod outside;
 #[cfg(test)]
 mod regions;
+#[cfg(test)]
+mod rounds;

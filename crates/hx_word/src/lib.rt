@@ -2,6 +2,7 @@
 //! after another.
 #![tactic(auto)]
 
+mod climb;
 pub mod entry;
 mod iterations;
 pub mod laws;

@@ -1,0 +1,4 @@
+pub mod Hands
+pub mod Listings
+pub mod Running
+pub mod Words
