@@ -143,7 +143,11 @@ const REGION: Marked<'static> = Marked {
     }),
 };
 
-fn made(alloc: Global, lines: &[Line], functions: &[Function]) -> Result<Executable, Fail> {
+fn made<'a>(
+    alloc: Global,
+    lines: &'a [Line],
+    functions: &'a [Function],
+) -> Result<Box<Executable>, Fail> {
     let plan = Plan {
         lines,
         changes: &[],
@@ -162,7 +166,7 @@ struct OverLoops;
 // What words of the loop came to, and, where these didn't lead to its end, words of its iterations up to that: how many there were in all, the whole turns, whether
 // the former led to its end, and the third word of the store.
 #[derive(Clone, Copy)]
-struct Went {
+struct Came {
     words: u64,
     turns: u64,
     at_once: bool,
@@ -176,7 +180,7 @@ fn gone_round<W: Stride>(
     calls: &mut Local,
     local: &mut Local,
     limit: u64,
-) -> Result<Option<Went>, Fail>
+) -> Result<Option<Came>, Fail>
     requires empty { (c : CallView) (rest : List CallView) → calls.old.calls ≡ c ∷ rest → c.operands ≡ [] }
 {
     code.known();
@@ -200,7 +204,7 @@ fn gone_round<W: Stride>(
     );
     let turns = gone.turns as u64;
     if gone.leaves {
-        return Ok(Some(Went {
+        return Ok(Some(Came {
             words: gone.words,
             turns,
             at_once: true,
@@ -213,7 +217,7 @@ fn gone_round<W: Stride>(
     }
     let mut counted = [0; PRIVATE_LIMIT];
     calls.leave(code, 0, done.number, &store, &mut counted);
-    Ok(Some(Went {
+    Ok(Some(Came {
         words: gone.words + done.words,
         turns: done.turns,
         at_once: false,
@@ -235,7 +239,7 @@ fn went<W: Stride>(
     alloc: Global,
     code: &Executable,
     limit: u64,
-) -> Result<Option<(Went, bool)>, Fail> {
+) -> Result<Option<(Came, bool)>, Fail> {
     let mut calls = Local::new(alloc, code)?;
     calls.leave_to(0, &private_words(1, 5));
     let mut local = Local::new(alloc, code)?;
