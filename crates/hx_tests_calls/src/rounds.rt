@@ -273,13 +273,13 @@ fn goes_on_from_anywhere<W: Stride>(
     code: &Executable,
     wanted: (u64, u64, i32),
 ) -> Result<(), Fail> {
-    let mut tried = 0;
+    let mut tried: u64 = 0;
     for limit in 1..100u64 {
         if let Some((came, is_behind)) = went::<W>(alloc, code, limit)? {
             assert_eq!(rt; (came.words, came.turns, came.sum), wanted);
             assert!(rt; is_behind);
             assert!(rt; !came.at_once || limit > came.words);
-            tried += 1;
+            tried = tried.saturating_add(1);
         }
     }
     assert!(rt; tried > 40);

@@ -2,7 +2,6 @@
 //! after another.
 #![tactic(auto)]
 
-mod climb;
 pub mod entry;
 mod iterations;
 pub mod laws;

@@ -167,7 +167,7 @@ impl<'c> Plain<'c> {
             is_inside: false,
             iterations,
             end: None,
-            seen: Seen::new(),
+            seen: Seen::new(code),
         };
         Ok(Plain { code, state })
     }
